@@ -13,9 +13,9 @@ use Rattle.cpg_all_runs.specs.Peaks.{IsFirstGreatest}
 
 -- given: the place of the first greatest of n numbers
 module _ (g : Graph) (urgency : List ℕ) (n : ℕ) (list : List Scenario) (numbers : List ℕ) (at : ℕ)
-    (f : IsFirstGreatest g urgency n list numbers at) where
-  -- If the number at n is greater, or as great and its scenario comes first, n is the place among the first n + 1. No scenario
-  -- with that number comes before the n-th, since it would come before that of the old place too.
+    (is_first : IsFirstGreatest g urgency n list numbers at) where
+  -- If the number at n is greater, or as great and its scenario comes first, n is the place among the first n + 1. No
+  -- scenario with that number comes before the n-th, since it would come before that of the old place too.
   pub takes_it : get_or numbers at 0 ≤ get_or numbers n 0 →
       (get_or numbers n 0 ≡ get_or numbers at 0 → (d : Scenario) →
       is_before g urgency (get_or list n d) (get_or list at d) ≡ true) →
@@ -23,19 +23,19 @@ module _ (g : Graph) (urgency : List ℕ) (n : ℕ) (list : List Scenario) (numb
   takes_it much earlier = record {
     there = omega arith;
     -- its number is the greatest of the first n + 1
-    most = λ i l. elim (cases_eq i n) [
-      | inl e ↦ omega (arith, ap (λ j. get_or numbers j 0) e)
-      | inr ne ↦ omega (arith, f.most i (omega arith))
+    most = λ i within. elim (cases_eq i n) [
+      | inl is_n ↦ omega (arith, ap (λ j. get_or numbers j 0) is_n)
+      | inr other ↦ omega (arith, is_first.most i (omega arith))
     ];
     -- of those with this number, none comes before its scenario
-    first = λ i d l e. elim (cases_eq i n) [
+    first = λ i d within as_great. elim (cases_eq i n) [
       | inl same ↦ ap (λ j. is_before g urgency (get_or list j d) (get_or list n d)) same
           ∙ before_irreflexive g urgency (get_or list n d)
-      | inr ne ↦
-          let m = f.most i (omega arith) in
+      | inr other ↦
+          let no_greater = is_first.most i (omega arith) in
           not_before_transitive g urgency (get_or list n d) (get_or list at d) (get_or list i d)
           (before_one_way g urgency (get_or list n d) (get_or list at d) (earlier (omega arith) d))
-          (f.first i d (omega arith) (omega arith))
+          (is_first.first i d (omega arith) (omega arith))
     ];
   }
 
@@ -44,16 +44,16 @@ module _ (g : Graph) (urgency : List ℕ) (n : ℕ) (list : List Scenario) (numb
       (get_or numbers n 0 ≡ get_or numbers at 0 → (d : Scenario) →
       is_before g urgency (get_or list n d) (get_or list at d) ≡ false) →
       IsFirstGreatest g urgency (n + 1) list numbers at
-  skips_it few later = record {
-    there = let l = f.there in omega arith;
-    most = λ i l. elim (cases_eq i n) [
-      | inl e ↦ omega (arith, ap (λ j. get_or numbers j 0) e)
-      | inr ne ↦ omega (arith, f.most i (omega arith))
+  skips_it no_greater later = record {
+    there = let inside = is_first.there in omega arith;
+    most = λ i within. elim (cases_eq i n) [
+      | inl is_n ↦ omega (arith, ap (λ j. get_or numbers j 0) is_n)
+      | inr other ↦ omega (arith, is_first.most i (omega arith))
     ];
-    first = λ i d l e. elim (cases_eq i n) [
+    first = λ i d within as_great. elim (cases_eq i n) [
       | inl same ↦ ap (λ j. is_before g urgency (get_or list j d) (get_or list at d)) same
-          ∙ later (sym (ap (λ j. get_or numbers j 0) same) ∙ e) d
-      | inr ne ↦ f.first i d (omega arith) e
+          ∙ later (sym (ap (λ j. get_or numbers j 0) same) ∙ as_great) d
+      | inr other ↦ is_first.first i d (omega arith) as_great
     ];
   }
 
@@ -62,9 +62,9 @@ pub starts_it : (g : Graph) (urgency : List ℕ) (list : List Scenario) (numbers
     IsFirstGreatest g urgency 1 list numbers 0
 starts_it g urgency list numbers = record {
   there = omega arith;
-  most = λ i l. omega (arith, ap (λ j. get_or numbers j 0) (let e : i ≡ 0 = omega arith in e));
-  first = λ i d l e. ap (λ j. is_before g urgency (get_or list j d) (get_or list 0 d)) (let z : i ≡ 0 = omega arith in
-      z) ∙ before_irreflexive g urgency (get_or list 0 d);
+  most = λ i within. omega (arith, ap (λ j. get_or numbers j 0) (let is_0 : i ≡ 0 = omega arith in is_0));
+  first = λ i d within as_great. ap (λ j. is_before g urgency (get_or list j d) (get_or list 0 d))
+      (let is_0 : i ≡ 0 = omega arith in is_0) ∙ before_irreflexive g urgency (get_or list 0 d);
 }
 
 -- the greatest of the first n + 1 numbers is the greater of the greatest of the first n and the n-th

@@ -27,15 +27,15 @@ module _ (g : Graph) (order : List ℕ) (frozen : List (Option ℕ)) where
       AreFirstRuns g order frozen n list runs →
       ((d : Scenario) → IsRun g order frozen (get_or list n d) t) →
       more ≡ runs ++ t ∷ [] → AreFirstRuns g order frozen (n + 1) list more
-  runs_more n list runs more t a new is = record {
-    count = ap length is ∙ length-append runs (t ∷ []) ∙ ap (λ m. m + 1) a.count;
+  runs_more n list runs more t runs_are new is = record {
+    count = ap length is ∙ length-append runs (t ∷ []) ∙ ap (λ m. m + 1) runs_are.count;
     -- the runs so far stay where they are, and the new one is at n
-    each = λ i s d l. elim (cases_lt i n) [
-      | inl h ↦ subst (IsRun g order frozen (get_or list i s))
-          (sym (ap (λ ts. get_or ts i d) is ∙ get_or_append_left runs (t ∷ []) d i (omega (arith, a.count))))
-          (a.each i s d h)
-      | inr h ↦
-          let at : i ≡ length runs = omega (arith, a.count) in
+    each = λ i s d within. elim (cases_lt i n) [
+      | inl less ↦ subst (IsRun g order frozen (get_or list i s))
+          (sym (ap (λ ts. get_or ts i d) is ∙ get_or_append_left runs (t ∷ []) d i (omega (arith, runs_are.count))))
+          (runs_are.each i s d less)
+      | inr not_less ↦
+          let at : i ≡ length runs = omega (arith, runs_are.count) in
           let same : n ≡ i = omega arith in
           subst (IsRun g order frozen (get_or list i s))
           (sym (ap₂ (λ ts j. get_or ts j d) is at ∙ get_or-append_seam runs t [] d))
@@ -48,12 +48,12 @@ module _ (g : Graph) (order : List ℕ) (frozen : List (Option ℕ)) where
       AreRuns g order frozen list runs →
       numbers ≡ map value runs →
       AreMeasured g order frozen value list numbers
-  measured value list runs numbers a is = record {
-    long = ap length is ∙ length-map runs value ∙ a.count;
-    each = λ i s l. let t = get_or runs i no_run in (
+  measured value list runs numbers runs_are is = record {
+    long = ap length is ∙ length-map runs value ∙ runs_are.count;
+    each = λ i s within. let t = get_or runs i no_run in (
       t,
-      a.each i s no_run l,
-      sym (ap (λ ns. get_or ns i 0) is ∙ get_or-map value runs i no_run 0 (omega (arith, a.count))),
+      runs_are.each i s no_run within,
+      sym (ap (λ ns. get_or ns i 0) is ∙ get_or-map value runs i no_run 0 (omega (arith, runs_are.count))),
     );
   }
     where

@@ -25,18 +25,20 @@ module _ (g : Graph) where
 
   -- if s has the runs of r, and r those of u, s has those of u
   same_through : (s r u : Scenario) → HaveSameRuns g s r → HaveSameRuns g r u → HaveSameRuns g s u
-  same_through s r u h k = record {
+  same_through s r u s_to_r r_to_u = record {
     onward =
-        λ order frozen t topological run. k.onward order frozen t topological (h.onward order frozen t topological run);
-    back = λ order frozen t topological run. h.back order frozen t topological (k.back order frozen t topological run);
+        λ order frozen t topological run. r_to_u.onward order frozen t topological
+        (s_to_r.onward order frozen t topological run);
+    back = λ order frozen t topological run. s_to_r.back order frozen t topological
+        (r_to_u.back order frozen t topological run);
   }
 
   -- what a list shows, it shows with one more scenario too
   shown_longer : (list : List Scenario) (r s : Scenario) → IsShown g list s → IsShown g (list ++ r ∷ []) s
-  shown_longer list r s w = (
-    w.0,
-    omega (arith, w.1, length-append list (r ∷ [])),
-    λ d. subst (λ z. HaveSameRuns g z s) (sym (get_or_append_left list (r ∷ []) d w.0 w.1)) (w.2 d),
+  shown_longer list r s shown = (
+    shown.0,
+    omega (arith, shown.1, length-append list (r ∷ [])),
+    λ d. subst (λ z. HaveSameRuns g z s) (sym (get_or_append_left list (r ∷ []) d shown.0 shown.1)) (shown.2 d),
   )
 
   -- a list shows its last scenario
@@ -51,26 +53,27 @@ module _ (g : Graph) where
   lawful_longer : (list : List Scenario) (r : Scenario) → IsScenario g r →
       ((s : Scenario) → Contains list s → IsScenario g s) → (s : Scenario) → Contains (list ++ r ∷ []) s →
       IsScenario g s
-  lawful_longer list r is a s c = elim (Contains-append_cases list (r ∷ []) s c) [
-    | inl o ↦ a s o
-    | inr n ↦ elim (Contains-cases r [] s n) [
+  lawful_longer list r is lawful s listed = elim (Contains-append_cases list (r ∷ []) s listed) [
+    | inl in_list ↦ lawful s in_list
+    | inr is_last ↦ elim (Contains-cases r [] s is_last) [
       | inl same ↦ subst (IsScenario g) same is
       | inr none ↦ absurd (Contains-nil s none)
     ]
   ]
 
   -- given: a list that shows the first n scenarios
-  module _ (n : ℕ) (scenarios list : List Scenario) (a : AreFirstExamples g n scenarios list)
+  module _ (n : ℕ) (scenarios list : List Scenario) (so_far : AreFirstExamples g n scenarios list)
       (within : n < length scenarios) where
     -- with the n-th scenario added, the list shows the first n + 1
     pub examples_more : (more : List Scenario) (r : Scenario) → r ≡ scenario_at g scenarios n → IsScenario g r →
         more ≡ list ++ r ∷ [] →
         AreFirstExamples g (n + 1) scenarios more
     examples_more more r at is grown = record {
-      lawful = λ s c. lawful_longer list r is a.lawful s (subst (λ l. Contains l s) grown c);
-      shown = λ i k. subst (λ l. IsShown g l (scenario_at g scenarios i)) (sym grown) (elim (cases_eq i n) [
-        | inl e ↦ subst (IsShown g (list ++ r ∷ [])) (at ∙ ap (scenario_at g scenarios) (sym e)) (shown_itself list r)
-        | inr apart ↦ shown_longer list r (scenario_at g scenarios i) (a.shown i (omega arith))
+      lawful = λ s listed. lawful_longer list r is so_far.lawful s (subst (λ l. Contains l s) grown listed);
+      shown = λ i inside. subst (λ l. IsShown g l (scenario_at g scenarios i)) (sym grown) (elim (cases_eq i n) [
+        | inl is_n ↦ subst (IsShown g (list ++ r ∷ [])) (at ∙ ap (scenario_at g scenarios) (sym is_n))
+            (shown_itself list r)
+        | inr apart ↦ shown_longer list r (scenario_at g scenarios i) (so_far.shown i (omega arith))
       ]);
     }
 
@@ -78,20 +81,21 @@ module _ (g : Graph) where
     pub examples_kept : (firsts : List ℕ) → AreFirstAlike g scenarios firsts → get_or firsts n 0 ≢ n →
         AreFirstExamples g (n + 1) scenarios list
     examples_kept firsts alike other = record {
-      lawful = a.lawful;
-      shown = λ i k. elim (cases_eq i n) [
+      lawful = so_far.lawful;
+      shown = λ i inside. elim (cases_eq i n) [
         -- what is shown of the first scenario with the active numbers of scenario n shows scenario n too
-        | inl e ↦
+        | inl is_n ↦
             let shown_at = get_or firsts n 0 in
             let up = alike.places.least n n within refl in
-            let w = a.shown shown_at (omega arith) in
-            subst (λ j. IsShown g list (scenario_at g scenarios j)) (sym e) (
-              w.0,
-              w.1,
-              λ d. same_through (get_or list w.0 d) (scenario_at g scenarios shown_at) (scenario_at g scenarios n) (w.2 d)
+            let shown = so_far.shown shown_at (omega arith) in
+            subst (λ j. IsShown g list (scenario_at g scenarios j)) (sym is_n) (
+              shown.0,
+              shown.1,
+              λ d. same_through (get_or list shown.0 d) (scenario_at g scenarios shown_at) (scenario_at g scenarios n)
+                  (shown.2 d)
                   (alike.runs n within),
             )
-        | inr apart ↦ a.shown i (omega arith)
+        | inr apart ↦ so_far.shown i (omega arith)
       ];
     }
 
@@ -99,8 +103,9 @@ module _ (g : Graph) where
   pub examples_all : (n : ℕ) (scenarios list : List Scenario) → AreScenarios g scenarios → n ≡ length scenarios →
       AreFirstExamples g n scenarios list →
       AreExamples g list
-  examples_all n scenarios list all e a = record {
-    lawful = a.lawful;
-    all = λ s is. let c = all.all s is in subst (IsShown g list)
-        (get_or_default scenarios c.0 (zero_scenario g) s c.1 ∙ c.2) (a.shown c.0 (omega (arith, c.1)));
+  examples_all n scenarios list all is_length so_far = record {
+    lawful = so_far.lawful;
+    all = λ s is. let listed = all.all s is in subst (IsShown g list)
+        (get_or_default scenarios listed.0 (zero_scenario g) s listed.1 ∙ listed.2)
+        (so_far.shown listed.0 (omega (arith, listed.1)));
   }

@@ -1,4 +1,5 @@
--- All scenarios of a graph as a list, and the lists of those with faults or true values below a number, of which it is made.
+-- All scenarios of a graph as a list, and the lists of those with faults or true values below a number, of which it is
+-- made.
 use Rattle.std.specs.Prelude.{ℕ, zero, suc, ◌+◌, ◌-◌, ◌≢◌, ◌<◌, true, List, [], ◌∷◌, map, length, sum, slice_set}
 use Rattle.std.specs.Prelude.{Contains}
 use Rattle.std.specs.List.{flat_map, AllPairs}

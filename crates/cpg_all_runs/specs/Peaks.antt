@@ -1,5 +1,5 @@
--- The greatest of the numbers of scenarios, the first scenario and the first process that have it, and the greatest finish
--- and excess as they are read off given runs.
+-- The greatest of the numbers of scenarios, the first scenario and the first process that have it, and the greatest
+-- finish and excess as they are read off given runs.
 use Rattle.std.specs.Prelude.{ℕ, ◌≡◌, ◌≢◌, ◌≤◌, ◌<◌, false, List, Option, Some, None, get_or}
 use Rattle.cpg_base.specs.Graph.{Graph}
 use Rattle.cpg_base.specs.Scenario.{Scenario, is_before}
@@ -8,8 +8,8 @@ use Rattle.cpg_run.specs.Run.{Times}
 use Rattle.cpg_run.specs.Finish.{excess_of, IsWorst, IsExcess}
 use Rattle.cpg_all_runs.specs.Runs.{AreRuns}
 
--- `at` is the place of the greatest of the first n numbers and, if several are as great, of the one whose scenario comes
--- first in the urgency order; `list` has the scenario of each number
+-- `at` is the place of the greatest of the first n numbers and, if several are as great, of the one whose scenario
+-- comes first in the urgency order; `list` has the scenario of each number
 pub record IsFirstGreatest (g : Graph) (urgency : List ℕ) (n : ℕ) (list : List Scenario) (numbers : List ℕ)
     (at : ℕ) : Type 0 where
   -- the place is one of the first n
@@ -30,16 +30,16 @@ pub record IsFirstExceeding (g : Graph) (t : Times) (excess p : ℕ) : Type 0 wh
   pub has : excess_of g t p ≡ excess
   pub first : (q : ℕ) → q < p → excess_of g t q ≢ excess
 
--- `worst` is the greatest finish, with the least scenario and process that have it, under any topological order and frozen
--- times under which the scenarios have these runs
+-- `worst` is the greatest finish, with the least scenario and process that have it, under any topological order and
+-- frozen times under which the scenarios have these runs
 abbrev pub IsWorstOfRuns : Graph → List ℕ → List Scenario → List Times → ℕ → Scenario → Option ℕ → Type 0
 IsWorstOfRuns g urgency list runs worst worst_in worst_by =
     (order : List ℕ) (frozen : List (Option ℕ)) → IsTopological g order →
     AreRuns g order frozen list runs
     → IsWorst g urgency order frozen worst worst_in worst_by
 
--- `excess` is the greatest excess, with the least scenario and process that have it, under any topological order and frozen
--- times under which the scenarios have these runs
+-- `excess` is the greatest excess, with the least scenario and process that have it, under any topological order and
+-- frozen times under which the scenarios have these runs
 abbrev pub IsExcessOfRuns : Graph → List ℕ → List Scenario → List Times → ℕ → Scenario → Option ℕ → Type 0
 IsExcessOfRuns g urgency list runs excess excess_in excess_by =
     (order : List ℕ) (frozen : List (Option ℕ)) → IsTopological g order →

@@ -14,8 +14,8 @@ place_in entries numbers = lookup (is_at (λ k. slice_cmp nat_cmp numbers k.item
 abbrev pub with_place : List (Vec ℕ × ℕ) → Vec ℕ → ℕ → List (Vec ℕ × ℕ)
 with_place entries numbers place = insert_entry (λ x y. slice_cmp nat_cmp x.items y.items) entries numbers place
 
--- `place` is that of a list of numbers in the map `map_old`, which stays as it is (`map_new`); if there is none, it is `at`,
--- and is added
+-- `place` is that of a list of numbers in the map `map_old`, which stays as it is (`map_new`); if there is none, it is
+-- `at`, and is added
 abbrev pub GetsPlace : Vec ℕ → ℕ → List (Vec ℕ × ℕ) → List (Vec ℕ × ℕ) → ℕ → Type 0
 GetsPlace numbers at map_old map_new place =
     ((place_in map_old numbers.items ≡ Some place) × (map_new ≡ map_old))

@@ -1,5 +1,5 @@
--- What is found of the runs of all scenarios of a list at a place of the order, as a sweep goes along the order with all of
--- them.
+-- What is found of the runs of all scenarios of a list at a place of the order, as a sweep goes along the order with
+-- all of them.
 use Rattle.std.specs.Prelude.{ℕ, ◌≡◌, ◌<◌, List, Option, length, get_or}
 use Rattle.cpg_base.specs.Graph.{Graph, producer}
 use Rattle.cpg_base.specs.Scenario.{Scenario}

@@ -7,25 +7,12 @@ ghost use Rattle.cpg_run.specs.Run.{Times, IsRun};
 ghost use Rattle.cpg_run.specs.Progress.{IsAlong};
 ghost use Rattle.cpg_run.specs.Setting.{IsSetting};
 ghost use Rattle.cpg_all_runs.specs.Active.{AreExamples};
-ghost use Rattle.cpg_run.specs.Latest.{later, IsUnfrozenTime};
+ghost use Rattle.cpg_run.specs.Latest.{IsUnfrozenTime};
 ghost use Rattle.cpg_all_runs.specs.Sweep.{AreAlong, place_of_item};
 
 use cpg_base::{OutOfMemory, Scenario};
-use cpg_run::{FrozenTimes, RunProgress, Setting};
+use cpg_run::{FrozenTimes, RunProgress, Setting, later};
 use std::alloc::Global;
-
-/// Returns the later of two times, the one that there is if there is only one, and `None` if there is none.
-fn later(one: Option<u64>, other: Option<u64>) -> Option<u64>
-    ensures { result ≡ later one other }
-{
-    let Some(time) = one else {
-        return other;
-    };
-    match other {
-        Some(other_time) => Some(time.max(other_time)),
-        None => Some(time),
-    }
-}
 
 /// Returns the time of an item in the run of a scenario, or `None` if it is inactive there. The item comes from the process
 /// at `place`, and `progress` is what is found of the scenario's run before that place.

@@ -31,15 +31,17 @@ pub on_graph : (a : Admission) (values : List Value) (F : Admission → Type 0) 
     OnGraph values F →
     (b : Admission) × AreAlike a b × F b
 on_graph a values F alike (b, is, fact) =
-    let k : AllAlike (graph_value a ∷ []) (graph_value b ∷ []) = subst (AllAlike (graph_value a ∷ [])) is alike in
-    (b, k.0, fact)
+    let alike_too : AllAlike (graph_value a ∷ []) (graph_value b ∷ []) =
+    subst (AllAlike (graph_value a ∷ [])) is alike in
+    (b, alike_too.0, fact)
 
 -- if the files say values that are alike to tables `t` alone, a fact `F` of what they say is a fact of these tables
 pub on_tables : (t : Tables) (values : List Value) (F : Tables → Type 0) → AllAlike (tables_value t ∷ []) values →
     OnTables values F → F t
 on_tables t values F alike (u, is, fact) =
-    let k : AllAlike (tables_value t ∷ []) (tables_value u ∷ []) = subst (AllAlike (tables_value t ∷ [])) is alike in
-    subst F k.0 fact
+    let alike_too : AllAlike (tables_value t ∷ []) (tables_value u ∷ []) =
+    subst (AllAlike (tables_value t ∷ [])) is alike in
+    subst F alike_too.0 fact
 
 -- the same for a graph `a` and tables `t`: a fact of a graph `b` that is alike, and of these tables
 pub on_judged : (a : Admission) (t : Tables) (values : List Value) (F : Admission → Tables → Type 0) →
@@ -47,9 +49,9 @@ pub on_judged : (a : Admission) (t : Tables) (values : List Value) (F : Admissio
     (b : Admission) ×
     AreAlike a b × F b t
 on_judged a t values F alike (b, u, is, fact) =
-    let k : AllAlike (graph_value a ∷ tables_value t ∷ []) (graph_value b ∷ tables_value u ∷ []) =
+    let alike_too : AllAlike (graph_value a ∷ tables_value t ∷ []) (graph_value b ∷ tables_value u ∷ []) =
     subst (AllAlike (graph_value a ∷ tables_value t ∷ [])) is alike in
-    (b, k.0, subst (F b) k.1.0 fact)
+    (b, alike_too.0, subst (F b) alike_too.1.0 fact)
 
 -- the same for a graph `a`, tables `t` and what is played, `p`: a fact of a graph `b` that is alike, and of these
 -- tables and this play
@@ -58,10 +60,10 @@ pub on_played : (a : Admission) (t : Tables) (p : Played) (values : List Value)
     AllAlike (graph_value a ∷ tables_value t ∷ played_value p ∷ []) values →
     OnPlayed values F → (b : Admission) × AreAlike a b × F b t p
 on_played a t p values F alike (b, u, q, is, fact) =
-    let k : AllAlike (graph_value a ∷ tables_value t ∷ played_value p ∷ [])
+    let alike_too : AllAlike (graph_value a ∷ tables_value t ∷ played_value p ∷ [])
     (graph_value b ∷ tables_value u ∷ played_value q ∷ []) =
     subst (AllAlike (graph_value a ∷ tables_value t ∷ played_value p ∷ [])) is alike in
-    (b, k.0, subst (F b t) k.1.1.0 (subst (λ v. F b v q) k.1.0 fact))
+    (b, alike_too.0, subst (F b t) alike_too.1.1.0 (subst (λ v. F b v q) alike_too.1.0 fact))
 
 -- the same for a graph `a`, tables `t` and a log `l`: a fact of a graph `b` that is alike, of these tables and of some
 -- log `m`
@@ -69,10 +71,10 @@ pub on_logged : (a : Admission) (t : Tables) (l : Log) (values : List Value) (F 
     AllAlike (graph_value a ∷ tables_value t ∷ log_value l ∷ []) values →
     OnLogged values F → (b : Admission) × AreAlike a b × ((m : Log) × F b t m)
 on_logged a t l values F alike (b, u, m, is, fact) =
-    let k : AllAlike (graph_value a ∷ tables_value t ∷ log_value l ∷ [])
+    let alike_too : AllAlike (graph_value a ∷ tables_value t ∷ log_value l ∷ [])
     (graph_value b ∷ tables_value u ∷ log_value m ∷ []) =
     subst (AllAlike (graph_value a ∷ tables_value t ∷ log_value l ∷ [])) is alike in
-    (b, k.0, (m, subst (λ v. F b v m) k.1.0 fact))
+    (b, alike_too.0, (m, subst (λ v. F b v m) alike_too.1.0 fact))
 
 -- a period and a graph as a part
 abbrev part_of : ℕ → Graph → Part
@@ -80,18 +82,19 @@ part_of period problem = record { period = period; problem = problem }
 
 -- parts `p` and `q` with one period and one graph are equal
 same_part : (p q : Part) → p.period ≡ q.period → p.problem ≡ q.problem → p ≡ q
-same_part p q e k = ap₂ part_of e k
+same_part p q periods problems = ap₂ part_of periods problems
 
 -- parts whose values are alike, with the periods of the same pairs, are equal; by induction on the pairs
 same_parts : (pairs : List Pair) (parts others : List Part) → AllAlike (part_values parts) (part_values others) →
     HavePeriods pairs parts → HavePeriods pairs others → others ≡ parts
-same_parts [] [] [] alike x y = refl
-same_parts [] [] (q ∷ others) alike x y = absurd y
-same_parts [] (p ∷ parts) others alike x y = absurd x
-same_parts (pair ∷ pairs) [] others alike x y = absurd x
-same_parts (pair ∷ pairs) (p ∷ parts) [] alike x y = absurd y
-same_parts (pair ∷ pairs) (p ∷ parts) (q ∷ others) alike x y =
-    ap₂ (λ d ds. d ∷ ds) (same_part q p (y.0 ∙ sym x.0) alike.0) (same_parts pairs parts others alike.1 x.1 y.1)
+same_parts [] [] [] alike periods other_periods = refl
+same_parts [] [] (q ∷ others) alike periods other_periods = absurd other_periods
+same_parts [] (p ∷ parts) others alike periods other_periods = absurd periods
+same_parts (pair ∷ pairs) [] others alike periods other_periods = absurd periods
+same_parts (pair ∷ pairs) (p ∷ parts) [] alike periods other_periods = absurd other_periods
+same_parts (pair ∷ pairs) (p ∷ parts) (q ∷ others) alike periods other_periods =
+    ap₂ (λ d ds. d ∷ ds) (same_part q p (other_periods.0 ∙ sym periods.0) alike.0)
+    (same_parts pairs parts others alike.1 periods.1 other_periods.1)
 
 -- if the files say values that are alike to those of these parts, a fact of what they say is a fact of these parts
 pub on_parts : (pairs : List Pair) (parts : List Part) (values : List Value) (F : List Part → Type 0) →
@@ -105,7 +108,7 @@ on_parts pairs parts values F alike periods (others, is, also, fact) =
 module _ (r : Ran) (c : Command) (vs : List Value) (has : Has r c vs) where
   -- if the run's words are also command d, it is c
   same_command : (d : Command) → command_of r.words ≡ Some d → d ≡ c
-  same_command d e = same_Some d c (sym e ∙ has.words)
+  same_command d also = same_Some d c (sym also ∙ has.words)
 
   -- if the run's files also say other values `ws`, for a command `d`, these are alike to the first
   alike : (d : Command) (ws : List Value) → Has r d ws → AllAlike vs ws
@@ -115,10 +118,10 @@ module _ (r : Ran) (c : Command) (vs : List Value) (has : Has r c vs) where
 
   -- a text that the run puts out is one that c puts out, by values that are alike
   pub printed : (text : Text) → Prints r text → (ws : List Value) × AllAlike vs ws × PutsOut c ws text
-  printed text p = (
-    p.values,
-    alike p.command p.values p.has,
-    subst (λ (k : Command). PutsOut k p.values text) (same_command p.command p.has.words) p.puts,
+  printed text prints = (
+    prints.values,
+    alike prints.command prints.values prints.has,
+    subst (λ (k : Command). PutsOut k prints.values text) (same_command prints.command prints.has.words) prints.puts,
   )
 
   -- If the run stops with halt `h`, memory ran out, or the work of `c` stops, by values `ws` that are alike: the words

@@ -91,11 +91,11 @@ pub ending_is : (g : Graph) (tables : List NodeTable) (s : Scenario) (number : �
     IsDriven old.graph old.world number old.cluster new.cluster waits →
     IsWholePlay old.graph old.tables old.world new.cluster → finish ≡ finish_of g new.cluster.ends →
     IsEnding g tables s number (record { finish = finish; waits = waits })
-ending_is g tables s number old new waits finish is driven whole e = record {
+ending_is g tables s number old new waits finish is driven whole same = record {
   cluster = new.cluster;
   driven = subst (λ (p : Playing). IsDriven p.graph p.world number p.cluster new.cluster waits) is driven;
   whole = subst (λ (p : Playing). IsWholePlay p.graph p.tables p.world new.cluster) is whole;
-  finish = e;
+  finish = same;
 }
 
 -- The play in the worst scenario ends at the greatest finish: the greatest end of a whole play is the finish of the

@@ -25,7 +25,7 @@ use Rattle.cpg_app.proofs.Written.{stopped}
 
 -- a fetch of a whole file is one of the file
 of_whole : (f : File) (fetch : Fetch) → IsWhole f fetch → IsFetchOf f fetch
-of_whole f fetch w = record { named = w.named }
+of_whole f fetch whole = record { named = whole.named }
 
 -- If file `f` stops a run with halt `h`, but not by a fault of the shelf, memory may have run out at the same fetch
 -- instead. By why it stops.
@@ -33,12 +33,12 @@ wants_too : (g : Option Graph) (f : File) (fetch : Fetch) (h : Halt) → h ≢ R
     IsWanting f fetch Memory
 wants_too g f fetch h other (inl unread) = absurd (other unread.halt_is)
 wants_too g f fetch h other (inr (inl long)) =
-    record { of = long.of; sound = long.sound; few = (let o = long.over in omega (arith, o)); halt_is = refl }
+    record { of = long.of; sound = long.sound; few = (let over = long.over in omega (arith, over)); halt_is = refl }
 wants_too g f fetch h other (inr (inr (inl refused))) =
     record {
       of = of_whole f fetch refused.whole;
       sound = refused.whole.sound;
-      few = (let s = refused.whole.short in omega (arith, s));
+      few = (let short = refused.whole.short in omega (arith, short));
       halt_is = refl;
     }
 wants_too g f fetch h other (inr (inr (inr wanting))) =
@@ -49,7 +49,7 @@ wants_too g f fetch h other (inr (inr (inr wanting))) =
 files_memory : (g : Option Graph) (files : List File) (past now : List Fetch) (h : Halt) → h ≢ Read →
     StopsReading g files past now h →
     StopsReading g files past now Memory
-files_memory g [] past now h other s = absurd s
+files_memory g [] past now h other stops_reading = absurd stops_reading
 files_memory g (f ∷ fs) past now h other (fetch, inl here) =
     (fetch, inl (inr (inr (inr (wants_too g f fetch h other here.0))), here.1))
 files_memory g (f ∷ fs) past now h other (fetch, inr (v, read, there)) =

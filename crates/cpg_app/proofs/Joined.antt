@@ -57,11 +57,18 @@ made_again : (a b : Admission) → AreAlike a b → (spell : Graph → Compiled 
     IsMadeOf b spell bytes →
     IsMadeOf a spell bytes
 made_again a b same spell bytes made =
-    let c = made.compiled in
-    let all = moved a b same (λ g order. IsCompilation g order c × ArePackOf g c.built.tables ×
-    AreSafe g c.built.tables.nodes × (bytes ≡ spell g c))
+    let compilation_of = made.compiled in
+    let moved_all =
+    moved a b same (λ g order. IsCompilation g order compilation_of × ArePackOf g compilation_of.built.tables ×
+    AreSafe g compilation_of.built.tables.nodes × (bytes ≡ spell g compilation_of))
     (made.compilation, made.pack, made.safe, made.spelled) in
-    record { compiled = c; compilation = all.0; pack = all.1; safe = all.2; spelled = all.3 }
+    record {
+      compiled = compilation_of;
+      compilation = moved_all.0;
+      pack = moved_all.1;
+      safe = moved_all.2;
+      spelled = moved_all.3;
+    }
 
 -- the graph is admitted, and the bytes are those that `spell` gives for one of its compilations
 pub record IsOutputFor (spell : Graph → Compiled → Text) (g : Graph) (made : Text) : Type 0 where
@@ -77,24 +84,25 @@ pub record IsOutputFor (spell : Graph → Compiled → Text) (g : Graph) (made :
 -- compilation of the file's graph (`puts`), isn't `live` (`dead`), and reads the graph file alone (`files`). The run
 -- ended with status 0, so it printed its output whole: it didn't follow a stream.
 output_of : (asked : Text → Command) (spell : Graph → Compiled → Text) →
-    ((graph text : Text) (vs : List Value) → PutsOut (asked graph) vs text → OnGraph vs (λ a. IsMadeOf a spell text)) →
+    ((graph text : Text) (vs : List Value) → PutsOut (asked graph) vs text →
+    OnGraph vs (λ a. IsMadeOf a spell text)) →
     ((graph : Text) → is_live (Some (asked graph)) ≡ false) →
     ((graph : Text) → files_of (asked graph) ≡ file GraphFile graph ∷ []) → (r : Ran) (g : Graph) (made : Text) →
     HasMade asked r g made → IsOutputFor spell g made
 output_of asked spell puts dead files r g made has = elim (has.lawful.done has.done) [
   | inl out ↦
-      let a = has.admission in
-      let q = printed r (asked has.graph) (graph_value a ∷ []) has.has out.0 out.1 in
-      let k = on_graph a q.0 (λ b. IsMadeOf b spell out.0) q.1 (puts has.graph out.0 q.0 q.2) in
+      let asked_for = has.admission in
+      let put = printed r (asked has.graph) (graph_value asked_for ∷ []) has.has out.0 out.1 in
+      let made_here = on_graph asked_for put.0 (λ b. IsMadeOf b spell out.0) put.1 (puts has.graph out.0 put.0 put.2) in
       record {
-        admission = a;
+        admission = asked_for;
         of = has.of;
         admitted = (values_lawful None (file GraphFile has.graph ∷ []) r.shelf.old.history r.shelf.new.history
-            (graph_value a ∷ [])
-            (subst (λ fs. Reads None fs r.shelf.old.history r.shelf.new.history (graph_value a ∷ []))
+            (graph_value asked_for ∷ [])
+            (subst (λ fs. Reads None fs r.shelf.old.history r.shelf.new.history (graph_value asked_for ∷ []))
             (files has.graph) has.has.reads)).0;
-        made_of = subst (λ text. IsMadeOf a spell text) (sym (put_out r made out.0 has.wrote out.2.out))
-            (made_again a k.0 k.1 spell out.0 k.2);
+        made_of = subst (λ text. IsMadeOf asked_for spell text) (sym (put_out r made out.0 has.wrote out.2.out))
+            (made_again asked_for made_here.0 made_here.1 spell out.0 made_here.2);
       }
   | inr closed ↦ absurd (other_words r closed.follows (Some (asked has.graph)) (dead has.graph) has.has.words)
 ]
@@ -112,9 +120,9 @@ pack_of = output_of Compile packed_of (λ graph text vs puts. puts) (λ graph. r
 -- if the element at place `i` of `xs` passes test `p`, there is a first place `j` whose element does
 found : {X : Type 0} (p : X → Bool) (xs : List X) (i : ℕ) (d : X) → i < length xs → p (get_or xs i d) ≡ true →
     (j : ℕ) × (position p xs ≡ Some j)
-found p xs i d l passes = elim (cases_lt (position_or_len p xs) (length xs)) [
+found p xs i d inside passes = elim (cases_lt (position_or_len p xs) (length xs)) [
   | inl lt ↦ (position_or_len p xs, cond-true _ _ _ (lt-ltb (position_or_len p xs) (length xs) lt))
-  | inr ge ↦ absurd (true≢false (sym passes ∙ fails_before_first p xs i d (omega (arith, ge, l))))
+  | inr ge ↦ absurd (true≢false (sym passes ∙ fails_before_first p xs i d (omega (arith, ge, inside))))
 ]
 
 -- a text passes the test of equality with itself
@@ -124,8 +132,9 @@ same_text text = (bytes_eq-Decides text text).1 refl
 -- for each node, some node is the first that has its name
 node_named : (h : Head) (node : ℕ) → node < length h.nodes →
     (first : ℕ) × (first_named h (get_or h.nodes node []) ≡ Some first)
-node_named h node l =
-    found (λ other. bytes_eq other (get_or h.nodes node [])) h.nodes node [] l (same_text (get_or h.nodes node []))
+node_named h node is_node =
+    found (λ other. bytes_eq other (get_or h.nodes node [])) h.nodes node [] is_node
+    (same_text (get_or h.nodes node []))
 
 -- ---- the pack is taken
 
@@ -137,8 +146,8 @@ module _ (g : Graph) (pack : Text) (is : IsOutputFor packed_of g pack) where
 
   -- lawful tables that the bytes spell are those that were packed
   same_tables : (t : Tables) → AreLawful t → pack ≡ spelling t → tables ≡ t
-  same_tables t lawful e = (one_spelling tables t [] is.made_of.pack.lawful lawful
-      (sym is.made_of.spelled ∙ (e ∙ sym (append-nil (spelling t))))).0
+  same_tables t lawful spelled = (one_spelling tables t [] is.made_of.pack.lawful lawful
+      (sym is.made_of.spelled ∙ (spelled ∙ sym (append-nil (spelling t))))).0
 
   -- the tables have the head of the graph
   head_is : IsHeadFor is.admission.graph tables.head
@@ -148,8 +157,8 @@ module _ (g : Graph) (pack : Text) (is : IsOutputFor packed_of g pack) where
   -- have the graph's head and are valid.
   judged : (r : Ran) (a : Admission) (t : Tables) → IsLawful r → a.graph ≡ g → pack ≡ spelling t → AsksVerdict r a t →
       EndsWell r
-  judged r a t lawful of e asks =
-      let same = same_tables t (tables_lawful r a t asks) e in
+  judged r a t lawful of spelled asks =
+      let same = same_tables t (tables_lawful r a t asks) spelled in
       let graph : is.admission.graph ≡ a.graph = is.of ∙ sym of in
       lawful.safe a t asks
       (subst (λ h. IsHeadFor h t.head) graph (subst (λ (u : Tables). IsHeadFor is.admission.graph u.head) same head_is))
@@ -160,13 +169,13 @@ module _ (g : Graph) (pack : Text) (is : IsOutputFor packed_of g pack) where
   -- one is the first that has the name.
   taken : (r : Ran) (path : Text) (t : Tables) (node : ℕ) → IsLawful r → pack ≡ spelling t → node < length g.nodes →
       Asks r (Node path (get_or g.nodes node [])) (tables_value t ∷ []) → EndsWell r
-  taken r path t node lawful e l asks =
+  taken r path t node lawful spelled is_node asks =
       let same = same_tables t (values_lawful None (files_of (Node path (get_or g.nodes node []))) r.shelf.old.history
-      r.shelf.new.history (tables_value t ∷ []) asks.has.reads).0 e in
+      r.shelf.new.history (tables_value t ∷ []) asks.has.reads).0 spelled in
       let nodes : t.head.nodes ≡ g.nodes =
       ap (λ (u : Tables). u.head.nodes) (sym same) ∙ (head_is.nodes ∙ ap (λ (h : Graph). h.nodes) is.of) in
       let named = node_named t.head node (let count : length t.head.nodes ≡ length g.nodes = ap length nodes in
-      omega (arith, count, l)) in
+      omega (arith, count, is_node)) in
       lawful.named path (get_or g.nodes node []) t named.0 asks
       (subst (λ (ns : List Text). first_named t.head (get_or ns node []) ≡ Some named.0) nodes named.1)
 
@@ -174,13 +183,13 @@ module _ (g : Graph) (pack : Text) (is : IsOutputFor packed_of g pack) where
   read : (o : Option Graph) (fetch : Fetch) → GaveAll fetch pack →
       (t : Tables) × IsRead o (file PackFile fetch.name) fetch (tables_value t) × (pack ≡ spelling t)
   read o fetch gave =
-      let e : fetch.given ≡ spelling tables = gave.given ∙ is.made_of.spelled in
+      let given_is : fetch.given ≡ spelling tables = gave.given ∙ is.made_of.spelled in
       let short : length fetch.given ≤ limit_of PackFile =
-      subst (λ (bytes : Text). length bytes ≤ limit_of PackFile) (sym e) is.made_of.pack.short in (
+      subst (λ (bytes : Text). length bytes ≤ limit_of PackFile) (sym given_is) is.made_of.pack.short in (
         tables,
         record {
           whole = record { named = refl; ended = gave.ended; sound = gave.sound; short = short };
-          says = (tables, refl, record { spelled = e; lawful = is.made_of.pack.lawful });
+          says = (tables, refl, record { spelled = given_is; lawful = is.made_of.pack.lawful });
         },
         is.made_of.spelled,
       )
@@ -207,12 +216,13 @@ packs_are_taken r g pack has = let is = pack_of r g pack has in record {
 -- two admissions `a` and `b` of one graph are alike, as it has one urgency order
 alike : (g : Graph) (a b : Admission) → a.graph ≡ g → b.graph ≡ g → IsAdmitted a.graph a.order a.guards →
     IsAdmitted b.graph b.order b.guards → AreAlike a b
-alike g a b e f x y =
-    let same : b.graph ≡ a.graph = f ∙ sym e in
+alike g a b a_is b_is a_admitted b_admitted =
+    let same : b.graph ≡ a.graph = b_is ∙ sym a_is in
     record {
       graph = same;
       order =
-          one_urgency_order a.graph b.order a.order (subst (λ h. IsUrgencyOrder h b.order) same y.urgency) x.urgency;
+          one_urgency_order a.graph b.order a.order (subst (λ h. IsUrgencyOrder h b.order) same b_admitted.urgency)
+          a_admitted.urgency;
     }
 
 -- What `show` printed and what `compile` wrote for one graph are of one admitted graph. Both are made of a compilation
@@ -221,16 +231,17 @@ pub show_and_compile_agree : ShowAndCompileAgree
 show_and_compile_agree r q g text pack shows packs =
     let one = shown_of r g text shows in
     let other = pack_of q g pack packs in
-    let a = one.admission in
-    let made = made_again a other.admission
-    (alike g a other.admission one.of other.of one.admitted other.admitted) packed_of pack other.made_of in
+    let shown_one = one.admission in
+    let made = made_again shown_one other.admission
+    (alike g shown_one other.admission one.of other.of one.admitted other.admitted) packed_of pack other.made_of in
     record {
-      admission = a;
+      admission = shown_one;
       of = one.of;
       admitted = one.admitted;
       shows = one.made_of;
       packs = made;
-      same = ask_the_same a.graph one.admitted.well_formed a.order one.admitted.topological
-          (first_topological a.graph a.order one.admitted.topological one.admitted.given) one.made_of.compiled
+      same = ask_the_same shown_one.graph one.admitted.well_formed shown_one.order one.admitted.topological
+          (first_topological shown_one.graph shown_one.order one.admitted.topological one.admitted.given)
+          one.made_of.compiled
           made.compiled one.made_of.compilation made.compilation;
     }

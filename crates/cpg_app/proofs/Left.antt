@@ -39,7 +39,7 @@ module _ (a b : Admission) (same : AreAlike a b) (h : Halt) where
   of_fault (CompileFault.TooWide x) e shows =
       inr (inr (ap status_of e, (x, moved a b same (λ g o. IsWide g (first_order g o) x) shows.0.wide)))
   of_fault (CompileFault.Late s p time) e shows = inr (inl (ap status_of e, moved a b same IsLate shows.0))
-  of_fault CompileFault.OutOfMemory e shows = inl (ap status_of e)
+  of_fault CompileFault.OutOfMemory same shows = inl (ap status_of same)
 
   -- the halt by which the compile of b fails is one of these for a
   pub compile_left : IsUncompiled b h → CompileLeft a h
@@ -81,14 +81,16 @@ PartsLeft parts h = (status_of h ≡ 8) ⊎
 refused_left : (parts : List Part) (h : Halt) (fault : HyperFault) → h ≡ halt_of_parts fault →
     ShowsUnrolled parts (Err fault) →
     PartsLeft parts h
-refused_left parts h (HyperFault.Range p) e shows = inr (ap status_of e, (HyperFault.Range p, shows, λ k. cc))
-refused_left parts h (HyperFault.Differ p) e shows = inr (ap status_of e, (HyperFault.Differ p, shows, λ k. cc))
-refused_left parts h (HyperFault.Over p) e shows = inr (ap status_of e, (HyperFault.Over p, shows, λ k. cc))
-refused_left parts h HyperFault.Period e shows = inr (ap status_of e, (HyperFault.Period, shows, λ k. cc))
-refused_left parts h (HyperFault.Count what) e shows = inr (ap status_of e, (HyperFault.Count what, shows, λ k. cc))
-refused_left parts h (HyperFault.LongName p) e shows = inr (ap status_of e, (HyperFault.LongName p, shows, λ k. cc))
-refused_left parts h (HyperFault.Order p) e shows = inr (ap status_of e, (HyperFault.Order p, shows, λ k. cc))
-refused_left parts h HyperFault.OutOfMemory e shows = inl (ap status_of e)
+refused_left parts h (HyperFault.Range p) same shows = inr (ap status_of same, (HyperFault.Range p, shows, λ k. cc))
+refused_left parts h (HyperFault.Differ p) same shows = inr (ap status_of same, (HyperFault.Differ p, shows, λ k. cc))
+refused_left parts h (HyperFault.Over p) same shows = inr (ap status_of same, (HyperFault.Over p, shows, λ k. cc))
+refused_left parts h HyperFault.Period same shows = inr (ap status_of same, (HyperFault.Period, shows, λ k. cc))
+refused_left parts h (HyperFault.Count what) same shows = inr
+    (ap status_of same, (HyperFault.Count what, shows, λ k. cc))
+refused_left parts h (HyperFault.LongName p) same shows = inr
+    (ap status_of same, (HyperFault.LongName p, shows, λ k. cc))
+refused_left parts h (HyperFault.Order p) same shows = inr (ap status_of same, (HyperFault.Order p, shows, λ k. cc))
+refused_left parts h HyperFault.OutOfMemory same shows = inl (ap status_of same)
 
 -- the halt by which parts aren't unrolled is one of these
 pub parts_left : (parts : List Part) (h : Halt) → IsNotUnrolled parts h → PartsLeft parts h

@@ -23,17 +23,17 @@ made_of_rows : (a : Admission) → WellFormed a.graph → IsPackHead (head_of a.
     (r : BuiltRows) (are : AreCompiledRows a.graph a.order r) (spell : Graph → Compiled → Text) (bytes : Text) →
     bytes ≡ spell a.graph (compiled_of r are.tables) → IsMadeOf a spell bytes
 made_of_rows a formed head r are spell bytes is =
-    let t = are.tables in
-    let compilation : IsCompilation a.graph a.order (compiled_of r t) = are.compilation t are.written in
-    let lawful : AreLawful t = record {
+    let tables = are.tables in
+    let compilation : IsCompilation a.graph a.order (compiled_of r tables) = are.compilation tables are.written in
+    let lawful : AreLawful tables = record {
       head = subst IsPackHead (sym are.written.head) head;
-      nodes = subst (λ h. AreTablesOf h t.nodes) (sym are.written.head) are.written.lawful;
+      nodes = subst (λ h. AreTablesOf h tables.nodes) (sym are.written.head) are.written.lawful;
     } in
     record {
-      compiled = compiled_of r t;
+      compiled = compiled_of r tables;
       compilation = compilation;
-      pack = record { head = are.written.head; lawful = lawful; short = all_short t lawful };
-      safe = compilations_are_safe a.graph formed a.order (compiled_of r t) compilation;
+      pack = record { head = are.written.head; lawful = lawful; short = all_short tables lawful };
+      safe = compilations_are_safe a.graph formed a.order (compiled_of r tables) compilation;
       spelled = is;
     }
 

@@ -67,7 +67,7 @@ of_compile a CompileFault.OutOfMemory shows = tt
 
 -- equal halts `h` and `k` name the same
 named_as : (h k : Halt) → h ≡ k → IsNamed k → IsNamed h
-named_as h k e n = subst IsNamed (sym e) n
+named_as h k same is_named = subst IsNamed (sym same) is_named
 
 -- a file that is too long names nothing of a graph
 long_named : (k : FileKind) → IsNamed (Refused (long_of k))
@@ -85,8 +85,8 @@ of_scenario ScenarioFault.OutOfMemory = tt
 -- a halt `h` by which the bytes of a file of kind `k` are rejected names only things that are there
 bytes_named : (g : Option Graph) (k : FileKind) (bytes : Text) (h : Halt) → Refuses g k bytes h → IsNamed h
 bytes_named g GraphFile bytes h (inl faulty) = named_as h _ faulty.halt_is (of_reading faulty.fault)
-bytes_named g GraphFile bytes h (inr none) = let b = none.breaks in
-    named_as h _ b.halt_is (of_rules none.graph b.fault b.shows)
+bytes_named g GraphFile bytes h (inr none) = let breaks = none.breaks in
+    named_as h _ breaks.halt_is (of_rules none.graph breaks.fault breaks.shows)
 bytes_named g PartFile bytes h faulty = named_as h _ faulty.halt_is (of_reading faulty.fault)
 bytes_named g PackFile bytes h none = named_as h _ none.halt_is tt
 bytes_named (Some g) ScenarioFile bytes h none = named_as h _ none.halt_is (of_scenario none.fault)
@@ -104,7 +104,7 @@ file_named g f fetch h (inr (inr (inr wanting))) = named_as h Memory wanting.hal
 -- a halt `h` while files are read names only things that are there
 pub files_named : (g : Option Graph) (files : List File) (past now : List Fetch) (h : Halt) →
     StopsReading g files past now h → IsNamed h
-files_named g [] past now h s = absurd s
+files_named g [] past now h stops_reading = absurd stops_reading
 files_named g (f ∷ fs) past now h (fetch, inl here) = file_named g f fetch h here.0
 files_named g (f ∷ fs) past now h (fetch, inr (v, read, there)) =
     files_named (graph_after g v) fs (fetch ∷ past) now h there

@@ -56,11 +56,11 @@ use Rattle.cpg_app.proofs.Unrolled.{not_both}
 
 -- a history with one fetch `f` more isn't the same history with two more, `e` and `d`
 one_is_two : (f e d : Fetch) (past : List Fetch) → f ∷ past ≡ e ∷ d ∷ past → ⊥
-one_is_two f e d past is = let l = ap length is in omega (arith, l)
+one_is_two f e d past is = let lengths = ap length is in omega (arith, lengths)
 
 -- a history isn't itself with two fetches more, `e` and `d`
 none_is_two : (e d : Fetch) (past : List Fetch) → past ≡ e ∷ d ∷ past → ⊥
-none_is_two e d past is = let l = ap length is in omega (arith, l)
+none_is_two e d past is = let lengths = ap length is in omega (arith, lengths)
 
 -- given a run
 module _ (r : Ran) where
@@ -70,12 +70,12 @@ module _ (r : Ran) where
   -- as a pack
   made_here : (a : Admission) → AsksForTables r a → (text : Text) → Prints r text →
       (spell : Graph → Compiled → Text) × (b : Admission) × AreAlike a b × IsMadeOf b spell text
-  made_here a (graph, inl asks) text p = let q = printed r _ _ asks.has text p in
-      let k = on_graph a q.0 _ q.1 q.2 in
-      (shown, k.0, k.1, k.2)
-  made_here a (graph, inr asks) text p = let q = printed r _ _ asks.has text p in
-      let k = on_graph a q.0 _ q.1 q.2 in
-      (packed, k.0, k.1, k.2)
+  made_here a (graph, inl asks) text prints = let put = printed r _ _ asks.has text prints in
+      let made = on_graph a put.0 _ put.1 put.2 in
+      (shown, made.0, made.1, made.2)
+  made_here a (graph, inr asks) text prints = let put = printed r _ _ asks.has text prints in
+      let made = on_graph a put.0 _ put.1 put.2 in
+      (packed, made.0, made.1, made.2)
 
   -- the graph whose tables are asked for is admitted
   admitted_here : (a : Admission) → AsksForTables r a → IsAdmitted a.graph a.order a.guards
@@ -107,11 +107,13 @@ module _ (r : Ran) where
   tables_left : (a : Admission) → AsksForTables r a → (h : Halt) → Stops r h → CompileLeft a h
   tables_left a (graph, inl asks) h stops = elim (stopped_by r _ _ asks.has h stops) [
     | inl memory ↦ inl (ap status_of memory)
-    | inr q ↦ let k = on_graph a q.0 (λ b. IsUncompiled b h) q.1 q.2 in compile_left a k.0 k.1 h k.2
+    | inr work ↦ let uncompiled = on_graph a work.0 (λ b. IsUncompiled b h) work.1 work.2 in
+        compile_left a uncompiled.0 uncompiled.1 h uncompiled.2
   ]
   tables_left a (graph, inr asks) h stops = elim (stopped_by r _ _ asks.has h stops) [
     | inl memory ↦ inl (ap status_of memory)
-    | inr q ↦ let k = on_graph a q.0 (λ b. IsUncompiled b h) q.1 q.2 in compile_left a k.0 k.1 h k.2
+    | inr work ↦ let uncompiled = on_graph a work.0 (λ b. IsUncompiled b h) work.1 work.2 in
+        compile_left a uncompiled.0 uncompiled.1 h uncompiled.2
   ]
 
   -- a run that asks for a verdict on tables `t` is one whose shelf and sinks meet no fault
@@ -134,17 +136,21 @@ module _ (r : Ran) where
   -- if a run that asks to judge tables `t` has an output, they have the graph's head and are valid
   judged_here : (a : Admission) (t : Tables) → AsksVerdict r a t → (text : Text) → Prints r text →
       IsHeadFor a.graph t.head × IsValid a.graph t.nodes
-  judged_here a t (graph, pack, inl asks) text p =
-      let q = printed r _ _ asks.has text p in let k = on_judged a t q.0 _ q.1 q.2 in
-      let lawful : AreLawful t = tables_lawful a t (graph, pack, inl asks) in judged_is a k.0 k.1 t lawful k.2.0
-  judged_here a t (graph, pack, inr (inl play)) text p =
-      let q = printed r _ _ play.asks.has text p in let k = on_played a t play.played q.0 _ q.1 q.2 in
+  judged_here a t (graph, pack, inl asks) text prints =
+      let put = printed r _ _ asks.has text prints in
+      let made = on_judged a t put.0 _ put.1 put.2 in
+      let lawful : AreLawful t = tables_lawful a t (graph, pack, inl asks) in
+      judged_is a made.0 made.1 t lawful made.2.0
+  judged_here a t (graph, pack, inr (inl play)) text prints =
+      let put = printed r _ _ play.asks.has text prints in
+      let made = on_played a t play.played put.0 _ put.1 put.2 in
       let lawful : AreLawful t = tables_lawful a t (graph, pack, inr (inl play)) in
-      judged_is a k.0 k.1 t lawful k.2.judged
-  judged_here a t (graph, pack, inr (inr audit)) text p =
-      let q = printed r _ _ audit.asks.has text p in let k = on_logged a t audit.log q.0 _ q.1 q.2 in
+      judged_is a made.0 made.1 t lawful made.2.judged
+  judged_here a t (graph, pack, inr (inr audit)) text prints =
+      let put = printed r _ _ audit.asks.has text prints in
+      let made = on_logged a t audit.log put.0 _ put.1 put.2 in
       let lawful : AreLawful t = tables_lawful a t (graph, pack, inr (inr audit)) in
-      judged_is a k.0 k.1 t lawful k.2.1.judged
+      judged_is a made.0 made.1 t lawful made.2.1.judged
 
   -- if a run that asks to judge tables `t` stops with halt `h`, memory ran out, or they are another graph's, or they
   -- aren't valid
@@ -152,32 +158,32 @@ module _ (r : Ran) where
       (h ≡ Memory) ⊎ CheckLeft a t h
   verdict_left a t (graph, pack, inl asks) h stops = elim (stopped_by r _ _ asks.has h stops) [
     | inl memory ↦ inl memory
-    | inr q ↦
-        let k = on_judged a t q.0 (λ b u. StopsVerdict b u h) q.1 q.2 in
+    | inr work ↦
+        let stopped = on_judged a t work.0 (λ b u. StopsVerdict b u h) work.1 work.2 in
         let lawful : AreLawful t = tables_lawful a t (graph, pack, inl asks) in
-        inr (check_left a k.0 k.1 t lawful h k.2)
+        inr (check_left a stopped.0 stopped.1 t lawful h stopped.2)
   ]
   verdict_left a t (graph, pack, inr (inl play)) h stops = elim (stopped_by r _ _ play.asks.has h stops) [
     | inl memory ↦ inl memory
-    | inr q ↦
-        let k = on_played a t play.played q.0 (λ b u p. StopsVerdict b u h) q.1 q.2 in
+    | inr work ↦
+        let stopped = on_played a t play.played work.0 (λ b u p. StopsVerdict b u h) work.1 work.2 in
         let lawful : AreLawful t = tables_lawful a t (graph, pack, inr (inl play)) in
-        inr (check_left a k.0 k.1 t lawful h k.2)
+        inr (check_left a stopped.0 stopped.1 t lawful h stopped.2)
   ]
   verdict_left a t (graph, pack, inr (inr audit)) h stops = elim (stopped_by r _ _ audit.asks.has h stops) [
     | inl memory ↦ inl memory
-    | inr q ↦
-        let k = on_logged a t audit.log q.0 (λ b u l. StopsVerdict b u h) q.1 q.2 in
+    | inr work ↦
+        let stopped = on_logged a t audit.log work.0 (λ b u l. StopsVerdict b u h) work.1 work.2 in
         let lawful : AreLawful t = tables_lawful a t (graph, pack, inr (inr audit)) in
-        inr (check_left a k.0 k.1 t lawful h k.2.1)
+        inr (check_left a stopped.0 stopped.1 t lawful h stopped.2.1)
   ]
 
   -- ---- a run that follows a stream has no output, and doesn't stop before it
 
   -- a run that follows a stream prints no output
   no_output : (f : Follows r) (text : Text) → Prints r text → ⊥
-  no_output f text p = subst (λ (k : Command). PutsOut k p.values text)
-      (same_Some p.command (Live f.pack f.name f.stream) (sym p.has.words ∙ f.words)) p.puts
+  no_output f text prints = subst (λ (k : Command). PutsOut k prints.values text)
+      (same_Some prints.command (Live f.pack f.name f.stream) (sym prints.has.words ∙ f.words)) prints.puts
 
   -- a run that follows a stream (`f`) hasn't read one pack alone: it has made two fetches
   read_one : (f : Follows r) (name : Text) (vs : List Value) →
@@ -213,28 +219,39 @@ module _ (r : Ran) where
   module _ (text : Text) (with : EndsWith r text) where
     -- a run with an output has status 0 or 3
     with_status : (r.status ≡ 0) ⊎ (r.status ≡ 3)
-    with_status = elim with.ending [ inl p ↦ inl p.status | inr c ↦ inr c.status ]
+    with_status = elim with.ending [ inl ended ↦ inl ended.status | inr closed ↦ inr closed.status ]
 
     -- a run with an output has no other status
     other_status : (n : ℕ) → r.status ≡ n → n ≢ 0 → n ≢ 3 → ⊥
-    other_status n e a b = elim with_status [ inl z ↦ a (sym e ∙ z) | inr t ↦ b (sym e ∙ t) ]
+    other_status n status_is not_0 not_3 =
+        elim with_status [ inl is_0 ↦ not_0 (sym status_is ∙ is_0) | inr is_3 ↦ not_3 (sym status_is ∙ is_3) ]
 
     -- with status 0 the output was printed
     with_done : r.status ≡ 0 → ((t : Text) × Prints r t × IsPrinted r t) ⊎ IsClosedStream r
     with_done zero =
-        elim with.ending [ inl p ↦ inl (text, with.prints, p) | inr c ↦ absurd (let e = c.status in omega arith) ]
+        elim with.ending [
+          | inl ended ↦ inl (text, with.prints, ended)
+          | inr closed ↦ absurd (let status = closed.status in omega arith)
+        ]
 
     -- with status 3 a sink counted a fault
     with_write : r.status ≡ 3 → Rose r.out.before r.out.now ⊎ Rose r.err.before r.err.now
-    with_write three = elim with.ending [ inl p ↦ absurd (let e = p.status in omega arith) | inr c ↦ inl c.out.rose ]
+    with_write three = elim with.ending [
+      | inl ended ↦ absurd (let status = ended.status in omega arith)
+      | inr closed ↦ inl closed.out.rose
+    ]
 
     -- with another status none did
     with_unmet : r.status ≢ 3 → (r.out.now ≡ r.out.before) × (r.err.now ≡ r.err.before)
-    with_unmet other = elim with.ending [ inl p ↦ (p.out.faultless, p.err.faultless) | inr c ↦ absurd (other c.status) ]
+    with_unmet other = elim with.ending [
+      | inl ended ↦ (ended.out.faultless, ended.err.faultless)
+      | inr closed ↦ absurd (other closed.status)
+    ]
 
     -- without faults the status is 0, so it is 0 or 8
     with_safe : IsFaultless r → (r.status ≡ 0) ⊎ (r.status ≡ 8)
-    with_safe faultless = elim with.ending [ inl p ↦ inl p.status | inr c ↦ absurd (faultless.out c.out.rose) ]
+    with_safe faultless =
+        elim with.ending [ inl ended ↦ inl ended.status | inr closed ↦ absurd (faultless.out closed.out.rose) ]
 
     -- if the tables of a graph without a given order are asked for, and an item `x` is too wide under its first order,
     -- the run ends with 6, or memory ran out (8)
@@ -257,18 +274,18 @@ module _ (r : Ran) where
     with_nameless : (pack name : Text) (t : Tables) → Asks r (Node pack name) (tables_value t ∷ []) →
         first_named t.head name ≡ None →
         (r.status ≡ 4) ⊎ (r.status ≡ 8)
-    with_nameless pack name t asks none = let q = printed r _ _ asks.has text with.prints in
-        let k = on_tables t q.0 _ q.1 q.2 in
-        absurd (none-some k.node (sym none ∙ k.named))
+    with_nameless pack name t asks none = let put = printed r _ _ asks.has text with.prints in
+        let shown_for = on_tables t put.0 _ put.1 put.2 in
+        absurd (none-some shown_for.node (sym none ∙ shown_for.named))
 
     -- if a graph of parts is printed, the parts aren't refused
     with_apart : (pairs : List Pair) (parts : List Part) (fault : HyperFault) →
         Asks r (Hyper pairs) (part_values parts) → HavePeriods pairs parts →
         ShowsUnrolled parts (Err fault) →
         fault ≢ OutOfMemory → (r.status ≡ 4) ⊎ (r.status ≡ 8)
-    with_apart pairs parts fault asks periods shows other = let q = printed r _ _ asks.has text with.prints in
-        let k = on_parts pairs parts q.0 _ q.1 periods q.2 in
-        absurd (not_both parts k.0 fault k.1 shows other)
+    with_apart pairs parts fault asks periods shows other = let put = printed r _ _ asks.has text with.prints in
+        let unrolled = on_parts pairs parts put.0 _ put.1 periods put.2 in
+        absurd (not_both parts unrolled.0 fault unrolled.1 shows other)
 
     -- a run of `live` has no such output
     with_unfollowed : (pack name stream : Text) (t : Tables) → Asks r (Live pack name stream) (tables_value t ∷ []) →
@@ -317,34 +334,34 @@ module _ (r : Ran) where
   module _ (halt : Halt) (by : EndsBy r halt) where
     -- with a status other than 3 the reason was told
     told_of : r.status ≢ 3 → IsTold r halt
-    told_of other = elim by.ending [ inl t ↦ t | inr m ↦ absurd (other m.status) ]
+    told_of other = elim by.ending [ inl told ↦ told | inr met ↦ absurd (other met.status) ]
 
     -- the same, for a status n other than 3
     told_at : (n : ℕ) → r.status ≡ n → n ≢ 3 → IsTold r halt
-    told_at n e other = told_of (λ three. other (sym e ∙ three))
+    told_at n status_is other = told_of (λ three. other (sym status_is ∙ three))
 
     -- with a status n other than 3, the halt's status is n
     status_at : (n : ℕ) → r.status ≡ n → n ≢ 3 → status_of halt ≡ n
-    status_at n e other = sym (told_at n e other).status ∙ e
+    status_at n status_is other = sym (told_at n status_is other).status ∙ status_is
 
     -- if no sink met a fault, the status is the halt's
     told_here : IsFaultless r → r.status ≡ status_of halt
-    told_here faultless = elim by.ending [ inl t ↦ t.status | inr m ↦ absurd (faultless.err m.err.rose) ]
+    told_here faultless = elim by.ending [ inl told ↦ told.status | inr met ↦ absurd (faultless.err met.err.rose) ]
 
     -- A halt with status 1 says that the words form no command. By where the run stops: a file or the work stops it
     -- with another status.
     words_at : status_of halt ≡ 1 → Stops r halt → command_of r.words ≡ None
     words_at one (inl words) = elim words.cause [
       | inl formless ↦ formless.1
-      | inr memory ↦ absurd (let e = ap status_of memory in omega (arith, one, e))
+      | inr memory ↦ absurd (let status = ap status_of memory in omega (arith, one, status))
     ]
     words_at one (inr (inl files)) = elim (of_files None (files_of files.command) _ _ halt files.stops) [
-      | inl read ↦ absurd (let e = ap status_of read.0 in omega (arith, one, e))
+      | inl read ↦ absurd (let status = ap status_of read.0 in omega (arith, one, status))
       | inr later ↦ absurd (omega (arith, one, later))
     ]
     words_at one (inr (inr work)) = elim work.stops [
       | inl stops ↦ absurd (let later = of_work work.command work.values halt stops in omega (arith, one, later))
-      | inr memory ↦ absurd (let e = ap status_of memory in omega (arith, one, e))
+      | inr memory ↦ absurd (let status = ap status_of memory in omega (arith, one, status))
     ]
 
     -- if the words form no command, the halt has status 1, or 8 as memory ran out
@@ -358,8 +375,8 @@ module _ (r : Ran) where
     -- status.
     failed_at : status_of halt ≡ 2 → Stops r halt → IsFailed r
     failed_at two (inl words) = elim words.cause [
-      | inl formless ↦ absurd (let e = ap status_of formless.0 in omega (arith, two, e))
-      | inr memory ↦ absurd (let e = ap status_of memory in omega (arith, two, e))
+      | inl formless ↦ absurd (let status = ap status_of formless.0 in omega (arith, two, status))
+      | inr memory ↦ absurd (let status = ap status_of memory in omega (arith, two, status))
     ]
     failed_at two (inr (inl files)) = elim (of_files None (files_of files.command) _ _ halt files.stops) [
       | inl read ↦ let last = read.1 in
@@ -368,13 +385,16 @@ module _ (r : Ran) where
     ]
     failed_at two (inr (inr work)) = elim work.stops [
       | inl stops ↦ absurd (let later = of_work work.command work.values halt stops in omega (arith, two, later))
-      | inr memory ↦ absurd (let e = ap status_of memory in omega (arith, two, e))
+      | inr memory ↦ absurd (let status = ap status_of memory in omega (arith, two, status))
     ]
 
     -- if the words form no command, the run has status 1 or 8, unless `err` met a fault
     by_formless : command_of r.words ≡ None → r.status ≢ 3 → (r.status ≡ 1) ⊎ (r.status ≡ 8)
-    by_formless none other = let t = (told_of other).status in
-        elim (formless_at none by.stops) [ inl e ↦ inl (t ∙ e) | inr e ↦ inr (t ∙ e) ]
+    by_formless none other = let told = (told_of other).status in
+        elim (formless_at none by.stops) [
+          | inl halt_status ↦ inl (told ∙ halt_status)
+          | inr halt_status ↦ inr (told ∙ halt_status)
+        ]
 
     -- with status 2 the last fetch failed, and the line that says so was written
     by_read : r.status ≡ 2 → IsFailed r × ((Stops r Read × IsTold r Read) ⊎ IsUnreadStream r)
@@ -464,7 +484,7 @@ module _ (r : Ran) where
       -- a halt with status 6, and an item that is too wide, are a refusal as too wide
       refused_as_wide : (status_of halt ≡ 6) × ((x : ℕ) × IsWide a.graph (first_order a.graph a.order) x) →
           IsRefusedAsWide r a
-      refused_as_wide w = record { status = here ∙ w.0; item = w.1.0; wide = w.1.1 }
+      refused_as_wide both = record { status = here ∙ both.0; item = both.1.0; wide = both.1.1 }
 
       -- a graph that is timely gives status 0 or 8, or is refused as too wide
       by_made : IsTimely a.graph a.order → ((r.status ≡ 0) ⊎ (r.status ≡ 8)) ⊎ IsRefusedAsWide r a
@@ -519,7 +539,8 @@ module _ (r : Ran) where
         (r.status ≡ 0) ⊎ (r.status ≡ 8)
     by_named pack name t node asks named = elim (stopped_by r _ _ asks.has halt by.stops) [
       | inl memory ↦ inr (told_here asks.faultless ∙ ap status_of memory)
-      | inr q ↦ let k = on_tables t q.0 _ q.1 q.2 in absurd (none-some node (sym k.none ∙ named))
+      | inr work ↦ let unnamed = on_tables t work.0 _ work.1 work.2 in
+          absurd (none-some node (sym unnamed.none ∙ named))
     ]
 
     -- a name that no node has gives status 4 or 8
@@ -528,7 +549,8 @@ module _ (r : Ran) where
         (r.status ≡ 4) ⊎ (r.status ≡ 8)
     by_nameless pack name t asks none = elim (stopped_by r _ _ asks.has halt by.stops) [
       | inl memory ↦ inr (told_here asks.faultless ∙ ap status_of memory)
-      | inr q ↦ let k = on_tables t q.0 _ q.1 q.2 in inl (told_here asks.faultless ∙ ap status_of k.halt_is)
+      | inr work ↦ let nameless = on_tables t work.0 _ work.1 work.2 in
+          inl (told_here asks.faultless ∙ ap status_of nameless.halt_is)
     ]
 
     -- a name that no node has gives status 4 or 8 for `live`
@@ -537,7 +559,8 @@ module _ (r : Ran) where
         (r.status ≡ 4) ⊎ (r.status ≡ 8)
     by_unfollowed pack name stream t asks none = elim (stopped_by r _ _ asks.has halt by.stops) [
       | inl memory ↦ inr (told_here asks.faultless ∙ ap status_of memory)
-      | inr q ↦ let k = on_tables t q.0 _ q.1 q.2 in inl (told_here asks.faultless ∙ ap status_of k.halt_is)
+      | inr work ↦ let nameless = on_tables t work.0 _ work.1 work.2 in
+          inl (told_here asks.faultless ∙ ap status_of nameless.halt_is)
     ]
 
     -- a run of `trial` that stops has status 8, or 3 as `err` met a fault

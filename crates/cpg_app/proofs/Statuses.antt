@@ -33,23 +33,23 @@ use Rattle.cpg_app.specs.Causes.{IsUncompiled, StopsVerdict, StopsWork}
 
 -- the status 1 is that of words that form no command
 pub words_of : (h : Halt) → status_of h ≡ 1 → h ≡ Words
-words_of Words e = refl
-words_of Read e = absurd (omega arith)
-words_of (Refused r) e = absurd (omega arith)
-words_of (Late a s p time) e = absurd (omega arith)
-words_of (TooWide a x) e = absurd (omega arith)
-words_of (Unsafe a f) e = absurd (omega arith)
-words_of Memory e = absurd (omega arith)
+words_of Words same = refl
+words_of Read same = absurd (omega arith)
+words_of (Refused r) same = absurd (omega arith)
+words_of (Late a s p time) same = absurd (omega arith)
+words_of (TooWide a x) same = absurd (omega arith)
+words_of (Unsafe a f) same = absurd (omega arith)
+words_of Memory same = absurd (omega arith)
 
 -- the status 2 is that of a read fault
 pub read_of : (h : Halt) → status_of h ≡ 2 → h ≡ Read
-read_of Words e = absurd (omega arith)
-read_of Read e = refl
-read_of (Refused r) e = absurd (omega arith)
-read_of (Late a s p time) e = absurd (omega arith)
-read_of (TooWide a x) e = absurd (omega arith)
-read_of (Unsafe a f) e = absurd (omega arith)
-read_of Memory e = absurd (omega arith)
+read_of Words same = absurd (omega arith)
+read_of Read same = refl
+read_of (Refused r) same = absurd (omega arith)
+read_of (Late a s p time) same = absurd (omega arith)
+read_of (TooWide a x) same = absurd (omega arith)
+read_of (Unsafe a f) same = absurd (omega arith)
+read_of Memory same = absurd (omega arith)
 
 -- a halt `h` with status 4 is that of a refusal `r`
 pub refused_of : (h : Halt) → status_of h ≡ 4 → (r : Refusal) × (h ≡ Refused r)
@@ -94,23 +94,23 @@ unsafe_of Memory seven = absurd (omega arith)
 
 -- no halt has the status 3
 pub not_three : (h : Halt) → status_of h ≡ 3 → ⊥
-not_three Words e = omega arith
-not_three Read e = omega arith
-not_three (Refused r) e = omega arith
-not_three (Late a s p time) e = omega arith
-not_three (TooWide a x) e = omega arith
-not_three (Unsafe a f) e = omega arith
-not_three Memory e = omega arith
+not_three Words same = omega arith
+not_three Read same = omega arith
+not_three (Refused r) same = omega arith
+not_three (Late a s p time) same = omega arith
+not_three (TooWide a x) same = omega arith
+not_three (Unsafe a f) same = omega arith
+not_three Memory same = omega arith
 
 -- no halt has the status 0
 pub not_zero : (h : Halt) → status_of h ≡ 0 → ⊥
-not_zero Words e = omega arith
-not_zero Read e = omega arith
-not_zero (Refused r) e = omega arith
-not_zero (Late a s p time) e = omega arith
-not_zero (TooWide a x) e = omega arith
-not_zero (Unsafe a f) e = omega arith
-not_zero Memory e = omega arith
+not_zero Words same = omega arith
+not_zero Read same = omega arith
+not_zero (Refused r) same = omega arith
+not_zero (Late a s p time) same = omega arith
+not_zero (TooWide a x) same = omega arith
+not_zero (Unsafe a f) same = omega arith
+not_zero Memory same = omega arith
 
 -- ---- what a file stops a run with
 
@@ -145,7 +145,8 @@ of_scenario ScenarioFault.OutOfMemory = omega arith
 -- a halt `h` by which the bytes of a file of kind `k` are rejected has a status from 4 on
 of_bytes : (g : Option Graph) (k : FileKind) (bytes : Text) (h : Halt) → Refuses g k bytes h → 4 ≤ status_of h
 of_bytes g GraphFile bytes h (inl faulty) = as_halt h _ faulty.halt_is (of_reading faulty.fault)
-of_bytes g GraphFile bytes h (inr none) = let b = none.breaks in as_halt h _ b.halt_is (of_rules none.graph b.fault)
+of_bytes g GraphFile bytes h (inr none) = let breaks = none.breaks in
+    as_halt h _ breaks.halt_is (of_rules none.graph breaks.fault)
 of_bytes g PartFile bytes h faulty = as_halt h _ faulty.halt_is (of_reading faulty.fault)
 of_bytes g PackFile bytes h none = as_halt h _ none.halt_is (omega arith)
 of_bytes (Some g) ScenarioFile bytes h none = as_halt h _ none.halt_is (of_scenario none.fault)
@@ -174,7 +175,7 @@ pub record FailsLast (now : List Fetch) : Type 0 where
 pub of_files : (g : Option Graph) (files : List File) (past now : List Fetch) (h : Halt) →
     StopsReading g files past now h →
     ((h ≡ Read) × FailsLast now) ⊎ (4 ≤ status_of h)
-of_files g [] past now h s = absurd s
+of_files g [] past now h stops_reading = absurd stops_reading
 of_files g (f ∷ fs) past now h (fetch, inl here) = elim (of_file g f fetch h here.0) [
   | inl failed ↦ inl (failed.0, record { fetch = fetch; past = past; last = here.1; failed = failed.1 })
   | inr later ↦ inr later

@@ -49,7 +49,7 @@ name_in other = []
 module _ (r : Ran) (f : Follows r) where
   -- its words aren't those of a command other than `live`
   pub other_words : (c : Option Command) → is_live c ≡ false → command_of r.words ≡ c → ⊥
-  other_words c off e = true≢false (ap is_live (sym f.words ∙ e) ∙ off)
+  other_words c off same = true≢false (ap is_live (sym f.words ∙ same) ∙ off)
 
   -- it doesn't ask for a graph's tables
   not_shown : (a : Admission) → AsksForTables r a → ⊥
@@ -138,7 +138,7 @@ module _ (r : Ran) (ends : EndsAtClose r) where
 
   -- the run has no status but 0
   zero_alone : (n : ℕ) → r.status ≡ n → n ≢ 0 → ⊥
-  zero_alone n e other = other (sym e ∙ ends.status)
+  zero_alone n same other = other (sym same ∙ ends.status)
 
   -- the status is that of the stream's end
   closes : (g : Follows r) → r.status ≡ status_of_end (stream_end (table_of g) g.fetch.given)
@@ -190,7 +190,7 @@ module _ (r : Ran) (ends : EndsAtClose r) where
 -- if bytes were sent to a sink, and the status is n and not 3, the wanted status was n
 status_sent : (sink : SinkSeen) (status wanted n : ℕ) (bytes : Text) → Sent sink status wanted bytes → status ≡ n →
     n ≢ 3 → wanted ≡ n
-status_sent sink status wanted n bytes sent e other = sym (sent.whole (λ three. other (sym e ∙ three))).0 ∙ e
+status_sent sink status wanted n bytes sent same other = sym (sent.whole (λ three. other (sym same ∙ three))).0 ∙ same
 
 -- a stream that breaks off gives status 2, 3 or 4
 said_status : (r : Ran) (broken : Broken) → IsSaid r.err r.status broken →
@@ -217,10 +217,10 @@ module _ (r : Ran) (ends : EndsInStream r) where
 
   -- the run has no status but 2, 3 and 4
   other_status : (n : ℕ) → r.status ≡ n → n ≢ 2 → n ≢ 3 → n ≢ 4 → ⊥
-  other_status n e a b c = elim (said_status r ends.broken ends.said) [
-    | inl two ↦ a (sym e ∙ two)
-    | inr (inl three) ↦ b (sym e ∙ three)
-    | inr (inr four) ↦ c (sym e ∙ four)
+  other_status n same not_2 not_3 not_4 = elim (said_status r ends.broken ends.said) [
+    | inl two ↦ not_2 (sym same ∙ two)
+    | inr (inl three) ↦ not_3 (sym same ∙ three)
+    | inr (inr four) ↦ not_4 (sym same ∙ four)
   ]
 
   -- with status 3 a sink counted a fault
@@ -272,8 +272,13 @@ module _ (r : Ran) (ends : EndsInStream r) where
 
   -- if the shelf met a fault in the stream, the last fetch failed
   failed_stream : IsUnreadStream r → IsFailed r
-  failed_stream unread = let f = unread.follows in
-      record { fetch = f.fetch; past = f.read ∷ r.shelf.old.history; last = f.history; failed = unread.lawful.failed }
+  failed_stream unread = let follows = unread.follows in
+      record {
+        fetch = follows.fetch;
+        past = follows.read ∷ r.shelf.old.history;
+        last = follows.history;
+        failed = unread.lawful.failed;
+      }
 
   -- with a status other than 0 and 3, the shelf met a fault in the stream, or the stream was refused
   silent : r.status ≢ 0 → r.status ≢ 3 →

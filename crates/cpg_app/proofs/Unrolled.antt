@@ -14,21 +14,21 @@ use Rattle.cpg_hyper.specs.Unrolled.{first_graph, unrolled}
 
 -- if a fact `P` holds of each part, no part `p` is the first of which it doesn't
 none_fails : (P : ℕ → Part → Type 0) (parts : List Part) (p : ℕ) → HoldsOfEach P parts → FailsFirst P parts p → ⊥
-none_fails P [] p holds fails = let l = fails.within in omega (arith, l)
+none_fails P [] p holds fails = let inside = fails.within in omega (arith, inside)
 none_fails P (d ∷ parts) p holds fails = fails.fails d (holds p d fails.within)
 
 -- a graph that is small enough exceeds no limit
 enough : (what : What) (g : Graph) → Exceeds what g → HasFewEnough g → ⊥
 enough What.Nodes g over few = over
 enough What.Slots g over few = over
-enough What.Processes g over few = let l = few.processes in omega (arith, l, over)
-enough What.Edges g over few = let l = few.edges in let m = over.1 in omega (arith, l, m)
+enough What.Processes g over few = let limit = few.processes in omega (arith, limit, over)
+enough What.Edges g over few = let limit = few.edges in let more = over.1 in omega (arith, limit, more)
 enough (What.Number place) g over few = over
-enough What.Conditions g over few = let l = few.conditions in let m = over.2 in omega (arith, l, m)
+enough What.Conditions g over few = let limit = few.conditions in let more = over.2 in omega (arith, limit, more)
 
 -- parts have one hyperperiod, so `n` and `m` are equal
 one_hyperperiod : (parts : List Part) (n m : ℕ) → IsHyperperiod parts n → IsHyperperiod parts m → n ≡ m
-one_hyperperiod parts n m a b = dvd_antisymm (a.least m b.common) (b.least n a.common)
+one_hyperperiod parts n m n_is m_is = dvd_antisymm (n_is.least m m_is.common) (m_is.least n n_is.common)
 
 -- Parts that have a graph of all their instances aren't refused. By the fault: what it says is just what the graph
 -- excludes.
@@ -40,9 +40,9 @@ not_both parts g (HyperFault.Differ p) made refused other =
     none_fails (λ p part. IsAlike (first_graph parts) part) parts p made.1.fitting.alike refused.1
 not_both parts g (HyperFault.Over p) made refused other =
     none_fails (λ p part. FitsPeriod part) parts p made.1.fitting.fitting refused.1
-not_both parts g HyperFault.Period made refused other = let l = refused.1 made.0 made.1.hyperperiod in
-    let s = made.1.short in
-    omega (arith, l, s)
+not_both parts g HyperFault.Period made refused other = let beyond = refused.1 made.0 made.1.hyperperiod in
+    let short = made.1.short in
+    omega (arith, beyond, short)
 not_both parts g (HyperFault.Count what) made refused other =
     let same = one_hyperperiod parts refused.0 made.0 refused.1.hyperperiod made.1.hyperperiod in
     enough what (unrolled made.0 parts) (subst (λ n. Exceeds what (unrolled n parts)) same refused.2) made.2

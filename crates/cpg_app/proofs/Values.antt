@@ -19,7 +19,7 @@ one_true (suc c) n = ap (λ vs. true ∷ vs) (one_true c n)
 pub next_true : (count c : ℕ) (vs new : List Bool) → c < count → vs ≡ replicate c true ++ replicate (count - c) false →
     new ≡ slice_set vs c true →
     new ≡ replicate (c + 1) true ++ replicate (count - (c + 1)) false
-next_true count c vs new l is made =
+next_true count c vs new below is made =
     let left : count - c ≡ suc (count - (c + 1)) = omega arith in
     let more : suc c ≡ c + 1 = omega arith in
     made ∙ ap (λ xs. slice_set xs c true) (is ∙ ap (λ n. replicate c true ++ replicate n false) left)
@@ -28,7 +28,7 @@ next_true count c vs new l is made =
 
 -- the scenario with all values true and two faults of the first process is one of the graph
 pub true_lawful : (g : Graph) → 0 < process_count g → 2 ≤ g.faults → IsScenario g (true_scenario g)
-true_lawful g l h =
+true_lawful g some h =
     let none = replicate {A = ℕ} (process_count g) 0 in
     let count : length none ≡ process_count g = length-replicate {A = ℕ} (process_count g) 0 in
     record {
@@ -36,7 +36,7 @@ true_lawful g l h =
       faults = length-set none 0 2 ∙ count;
       budget = omega (
         arith,
-        sum_by-set (λ (x : ℕ). x) none 0 2 0 (omega (arith, l, count)),
+        sum_by-set (λ (x : ℕ). x) none 0 2 0 (omega (arith, some, count)),
         sum_by-replicate (λ (x : ℕ). x) (process_count g) 0,
         h,
       );

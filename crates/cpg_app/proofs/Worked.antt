@@ -29,31 +29,31 @@ use Rattle.cpg_app.specs.Tunes.{IsTuningText}
 
 -- if `P` of a value implies `Q`, a result `r` whose value has `P` has `Q`
 pub if_ok : {T E : Type 0} {P Q : T → Type 0} (r : Result T E) → ((x : T) → P x → Q x) → IfOk r P → IfOk r Q
-if_ok (Ok x) f p = f x p
-if_ok (Err e) f p = p
+if_ok (Ok x) each p = each x p
+if_ok (Err e) each p = p
 
 -- if `P` of an error implies `Q`, a result `r` whose error has `P` has `Q`
 pub if_err : {T E : Type 0} {P Q : E → Type 0} (r : Result T E) → ((e : E) → P e → Q e) → IfErr r P → IfErr r Q
-if_err (Ok x) f p = p
-if_err (Err e) f p = f e p
+if_err (Ok x) each p = p
+if_err (Err e) each p = each e p
 
 -- if a fact of a text implies another, an output whose text has the first has the second; by the kind of output
 put_on : {P Q : Text → Type 0} (o : Output) → ((text : Text) → P text → Q text) → Puts o P → Puts o Q
-put_on (Lines text) f p = f (string_bytes text) p
-put_on (Shown made) f p = f (shown_by made.admitted.graph made.rows) p
-put_on (OfNode tables node) f p = (p.0, f (node_text tables node) p.1)
-put_on (Pack made) f p = (p.0, f (packed_by made.admitted.graph made.rows) p.1)
-put_on (Stream follower path) f p = p
+put_on (Lines text) each puts = each (string_bytes text) puts
+put_on (Shown made) each puts = each (shown_by made.admitted.graph made.rows) puts
+put_on (OfNode tables node) each puts = (puts.0, each (node_text tables node) puts.1)
+put_on (Pack made) each puts = (puts.0, each (packed_by made.admitted.graph made.rows) puts.1)
+put_on (Stream follower path) each puts = puts
 
 -- given a command, the values of its files, and the result of the work
 module _ (c : Command) (vs : List Value) (r : Result Output Halt) where
   -- what answers a command that equals c answers c
   known : (d : Command) → c ≡ d → IfOk r (Answers d vs) → IfOk r (Answers c vs)
-  known d e = subst (λ k. IfOk r (Answers k vs)) (sym e)
+  known d same = subst (λ k. IfOk r (Answers k vs)) (sym same)
 
   -- if each text of which `P` holds is one of which `Q` holds, an output that `P` holds of is one that `Q` holds of
   puts : {P Q : Text → Type 0} → ((text : Text) → P text → Q text) → IfOk r (λ o. Puts o P) → IfOk r (λ o. Puts o Q)
-  puts f = if_ok r (λ o. put_on o f)
+  puts each = if_ok r (λ o. put_on o each)
 
   -- What is put out by the inputs of `show` answers the command, which is `show`, as the inputs say. So it is for each
   -- command below.
@@ -121,16 +121,16 @@ module _ (c : Command) (vs : List Value) (r : Result Output Halt) where
 
   -- a halt of a command that equals c is one of c
   stop_as : (d : Command) → c ≡ d → IfErr r (OrMemory (StopsWork d vs)) → IfErr r (OrMemory (StopsWork c vs))
-  stop_as d e = subst (λ k. IfErr r (OrMemory (StopsWork k vs))) (sym e)
+  stop_as d same = subst (λ k. IfErr r (OrMemory (StopsWork k vs))) (sym same)
 
   -- if a fact of a halt implies another, a result whose halt has the first, or is that memory ran out, has the second,
   -- or so
   stops : {P Q : Halt → Type 0} → ((h : Halt) → P h → Q h) → IfErr r (OrMemory P) → IfErr r (OrMemory Q)
-  stops {P = P} {Q = Q} f = if_err r (λ h so. go h so)
+  stops {P = P} {Q = Q} each = if_err r (λ h so. go h so)
     where
       -- by whether memory ran out
       go : (h : Halt) → OrMemory P h → OrMemory Q h
-      go h (inl p) = inl (f h p)
+      go h (inl p) = inl (each h p)
       go h (inr memory) = inr memory
 
   -- a halt of the work on the inputs of `show` is one of the command's work

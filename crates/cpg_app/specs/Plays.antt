@@ -10,7 +10,7 @@ use Rattle.cpg_cluster.specs.Driving.{IsDriven}
 use Rattle.cpg_cluster.specs.Whole.{IsWholePlay}
 use Rattle.cpg_show.specs.TraceText.{IsTraceText}
 
--- what happens, as a scenario file says it
+-- the fault counts, values and lengths that a scenario file says
 abbrev pub world_of : Played → World
 world_of p = record { scenario = p.scenario; lengths = p.lengths }
 
@@ -18,7 +18,8 @@ world_of p = record { scenario = p.scenario; lengths = p.lengths }
 abbrev pub waits_line : ℕ → Text
 waits_line waits = codes "waits " ++ decimal waits ++ codes "\n"
 
--- the text is the trace of all nodes after a play that a number drives until each is done, and the line of its waits
+-- the text is the trace of all nodes after a play whose choices are drawn from a number until each is done, and the line of
+-- its waits
 pub record IsPlayText (g : Graph) (tables : List NodeTable) (w : World) (number : ℕ) (text : Text) : Type 0 where
   -- the nodes at the end, and how often a node that was asked had to wait
   pub cluster : Cluster
@@ -27,7 +28,7 @@ pub record IsPlayText (g : Graph) (tables : List NodeTable) (w : World) (number 
   pub driven : IsDriven g w number (initial_cluster g tables) cluster waits
   -- every node has done what is due on it
   pub whole : IsWholePlay g tables w cluster
-  -- the lines of what the nodes did
+  -- the lines of what the nodes did, and of the greatest end
   pub trace : Text
   pub traced : IsTraceText g w.lengths cluster.acts cluster.ends trace
   pub spelled : text ≡ trace ++ waits_line waits

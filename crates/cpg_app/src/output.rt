@@ -92,6 +92,7 @@ pub fn put_pack<O: Sink>(alloc: Global, made: Made, out: &mut O) -> Result<(), W
 {
     let problem = made.admitted.problem();
     let written = write_made(alloc, problem, made.rows.rows.as_slice(), out);
+    // the run ends now, so the memory isn't given back piece by piece
     forget(made);
     written
 }

@@ -16,28 +16,30 @@ module _ {X : Type 0} (same : X → X → Bool) (R : X → X → Type 0) (to : (
     (back : (x y : X) → R x y → same x y ≡ false) where
   -- if no element of xs passes the test with a later one, all pairs of xs are related
   pub pairs_from_apart : (xs : List X) → are_apart same xs ≡ true → AllPairs R xs
-  pairs_from_apart [] e = λ i j d l h. absurd (omega arith)
-  pairs_from_apart (x ∷ xs) e =
-      let p = and_parts (not (list_any (same x) xs)) (are_apart same xs) e in
-      AllPairs-cons R x xs (λ k d l. to x (get_or xs k d) (from_any_false (same x) xs (get_or xs k d)
-      (not-true (list_any (same x) xs) p.0) (Contains-get_or xs k d l))) (pairs_from_apart xs p.1)
+  pairs_from_apart [] apart = λ i j d i_before_j j_inside. absurd (omega arith)
+  pairs_from_apart (x ∷ xs) apart =
+      let parts = and_parts (not (list_any (same x) xs)) (are_apart same xs) apart in
+      AllPairs-cons R x xs (λ k d inside. to x (get_or xs k d) (from_any_false (same x) xs (get_or xs k d)
+      (not-true (list_any (same x) xs) parts.0) (Contains-get_or xs k d inside))) (pairs_from_apart xs parts.1)
 
   -- if all pairs of xs are related, no element of xs passes the test with a later one
   pub apart_from_pairs : (xs : List X) → AllPairs R xs → are_apart same xs ≡ true
-  apart_from_pairs [] h = refl
-  apart_from_pairs (x ∷ xs) h = and_from (not (list_any (same x) xs)) (are_apart same xs)
+  apart_from_pairs [] related = refl
+  apart_from_pairs (x ∷ xs) related = and_from (not (list_any (same x) xs)) (are_apart same xs)
       (ap not (list_any_false (same x) xs
-      (λ y c. back x y (subst (R x) c.2 (h 0 (suc c.0) y (omega arith) (omega (arith, c.1)))))))
-      (apart_from_pairs xs (λ i j d l m. h (suc i) (suc j) d (omega arith) (omega arith)))
+      (λ y within. back x y (subst (R x) within.2
+      (related 0 (suc within.0) y (omega arith) (omega (arith, within.1)))))))
+      (apart_from_pairs xs (λ i j d i_before_j j_inside. related (suc i) (suc j) d (omega arith) (omega arith)))
 
   -- the answer b of the test of xs says whether all pairs of xs are related
   pub apart_iff : (b : Bool) (xs : List X) → are_apart same xs ≡ b → IsTrue b ↔ AllPairs R xs
-  apart_iff true xs e = (λ _. pairs_from_apart xs e, λ _. refl)
-  apart_iff false xs e = (λ h. absurd (true≢false (sym h)), λ h. absurd (true≢false (sym (apart_from_pairs xs h) ∙ e)))
+  apart_iff true xs is = (λ _. pairs_from_apart xs is, λ _. refl)
+  apart_iff false xs is =
+      (λ given. absurd (true≢false (sym given)), λ given. absurd (true≢false (sym (apart_from_pairs xs given) ∙ is)))
 
 -- names that the comparison of bytes tells apart differ
 names_differ : (x y : List ℕ) → bytes_eq x y ≡ false → x ≢ y
-names_differ x y e is = true≢false (sym ((bytes_eq-Decides x y).1 is) ∙ e)
+names_differ x y fails is = true≢false (sym ((bytes_eq-Decides x y).1 is) ∙ fails)
 
 -- names that aren't the same have different bytes
 differ_names : (x y : List ℕ) → x ≢ y → bytes_eq x y ≡ false

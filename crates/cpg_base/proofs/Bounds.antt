@@ -21,9 +21,9 @@ round-le g within = omega (
 -- a slot is no longer than the round
 pub slot_length-le : (g : Graph) (node : ℕ) → slot_length g node ≤ round g
 slot_length-le g node = elim (cases_lt (slot_place g node) (length g.slots)) [
-  | inl l ↦ get_or-le-sum_by (λ (s : Slot). s.length) g.slots (slot_place g node) _ l
-  | inr l ↦ let e : slot_length g node ≡ 0 =
-      ap (λ (s : Slot). s.length) (get_or_past g.slots (slot_place g node) _ l) in
+  | inl inside ↦ get_or-le-sum_by (λ (s : Slot). s.length) g.slots (slot_place g node) _ inside
+  | inr past ↦ let is_zero : slot_length g node ≡ 0 =
+      ap (λ (s : Slot). s.length) (get_or_past g.slots (slot_place g node) _ past) in
       omega arith
 ]
 
@@ -41,4 +41,5 @@ duration_of-le nodes p f within few =
 
 -- an execution of a process of a graph within the limits takes at most as long
 pub duration-le : (g : Graph) (p f : ℕ) → IsWithinLimits g → p < process_count g → f ≤ 8 → duration g p f ≤ 600000000000
-duration-le g p f within l few = duration_of-le (length g.nodes) (process_at g p) f (within.processes p _ l) few
+duration-le g p f within inside few =
+    duration_of-le (length g.nodes) (process_at g p) f (within.processes p _ inside) few

@@ -19,58 +19,58 @@ use Rattle.cpg_base.proofs.Places.{position-place, place-le, place-lt, get_or-pl
 
 -- in a rising list the place of the number at place k is k
 place-get_or : (xs : List ℕ) (k : ℕ) → IsStrictlyIncreasing xs → k < length xs → place xs (get_or xs k 0) ≡ k
-place-get_or xs k rises h =
-    let c = Contains-get_or xs k 0 h in
-    let le = place-le xs (get_or xs k 0) k h (get_or_here xs k h) in
+place-get_or xs k rises inside =
+    let listed = Contains-get_or xs k 0 inside in
+    let le = place-le xs (get_or xs k 0) k inside (get_or_here xs k inside) in
     ⊎_elim
-    (λ (l : place xs (get_or xs k 0) < k). absurd
-    (lt_irrefl _ (subst (λ y. y < get_or xs k 0) (get_or-place xs (get_or xs k 0) 0 c)
-    (AllPairs-from_increasing xs rises (place xs (get_or xs k 0)) k 0 l h))))
-    (λ (l : k ≤ place xs (get_or xs k 0)). omega arith)
+    (λ (earlier : place xs (get_or xs k 0) < k). absurd
+    (lt_irrefl _ (subst (λ y. y < get_or xs k 0) (get_or-place xs (get_or xs k 0) 0 listed)
+    (AllPairs-from_increasing xs rises (place xs (get_or xs k 0)) k 0 earlier inside))))
+    (λ (not_earlier : k ≤ place xs (get_or xs k 0)). omega arith)
     (cases_lt (place xs (get_or xs k 0)) k)
   where
     -- an element at a place of the list doesn't depend on what stands past its end
     get_or_here : (ys : List ℕ) (i : ℕ) → i < length ys → get_or ys i (get_or ys i 0) ≡ get_or ys i 0
-    get_or_here ys i j = get_or_default ys i _ 0 j
+    get_or_here ys i inside = get_or_default ys i _ 0 inside
 
 module _ (g : Graph) where
   -- the process of a condition is one of those that have conditions
   pub Contains-disjunctions : (c : ℕ) → c < condition_count g → Contains (disjunctions g) (process_of g c)
-  Contains-disjunctions c h = Contains-get_or (disjunctions g) c 0 h
+  Contains-disjunctions c inside = Contains-get_or (disjunctions g) c 0 inside
 
   -- the condition of a condition's process is that condition
   pub condition_of_process_of : (c : ℕ) → c < condition_count g → condition_of g (process_of g c) ≡ Some c
-  condition_of_process_of c h = position-place (disjunctions g) (process_of g c) (Contains-disjunctions c h)
-      ∙ ap Some (place-get_or (disjunctions g) c (disjunctions_rise g) h)
+  condition_of_process_of c inside = position-place (disjunctions g) (process_of g c) (Contains-disjunctions c inside)
+      ∙ ap Some (place-get_or (disjunctions g) c (disjunctions_rise g) inside)
 
   -- the process of a process's condition is that process
   pub process_of_condition_of : (p c : ℕ) → condition_of g p ≡ Some c → process_of g c ≡ p
-  process_of_condition_of p c e = eqb-true (process_of g c) p (position-Some (λ q. q == p) (disjunctions g) c 0 e).1
+  process_of_condition_of p c is = eqb-true (process_of g c) p (position-Some (λ q. q == p) (disjunctions g) c 0 is).1
 
   -- the condition of a process that has one
   pub condition_there : (p : ℕ) → p < process_count g → is_disjunction g p ≡ true →
       (c : ℕ) × (c < condition_count g) × (process_of g c ≡ p)
-  condition_there p h t =
-      let c = Contains-filter (is_disjunction g) (numbers_below (process_count g)) p t
-      (Contains-numbers (process_count g) p h) in
-      (place (disjunctions g) p, place-lt (disjunctions g) p c, get_or-place (disjunctions g) p 0 c)
+  condition_there p inside has_condition =
+      let listed = Contains-filter (is_disjunction g) (numbers_below (process_count g)) p has_condition
+      (Contains-numbers (process_count g) p inside) in
+      (place (disjunctions g) p, place-lt (disjunctions g) p listed, get_or-place (disjunctions g) p 0 listed)
 
   -- the source of a conditional edge has a condition
   pub condition_of_edge : (e : ℕ) (wanted : Bool) → e < edge_count g → source g e < process_count g →
       (edge_at g e).when ≡ Some wanted →
       (c : ℕ) × (c < condition_count g) ×
       (process_of g c ≡ source g e)
-  condition_of_edge e wanted h s w = condition_there (source g e) s
+  condition_of_edge e wanted inside source_inside when_is = condition_there (source g e) source_inside
       (list_any_true (λ f. is_some (edge_at g f).when) (outputs g (source g e)) e
-      (outputs-Contains g e h)
-      (ap is_some w))
+      (outputs-Contains g e inside)
+      (ap is_some when_is))
 
   -- the value of a process's condition is the one that the outcome gives the condition
   pub value_of_process : (values : List Bool) (c : ℕ) → c < condition_count g →
       value_of g values (process_of g c) ≡ get_or values c false
-  value_of_process values c h = ap (λ o. get_or values (unwrap_or o 0) false) (condition_of_process_of c h)
+  value_of_process values c inside = ap (λ o. get_or values (unwrap_or o 0) false) (condition_of_process_of c inside)
 
 module _ (g : Graph) where
   -- the condition of a process is a condition of the graph
   pub condition_of_below : (p c : ℕ) → condition_of g p ≡ Some c → c < condition_count g
-  condition_of_below p c e = (position-Some (λ q. q == p) (disjunctions g) c 0 e).0
+  condition_of_below p c is = (position-Some (λ q. q == p) (disjunctions g) c 0 is).0

@@ -16,69 +16,79 @@ module _ (g : Graph) (order : List ℕ) where
   pub first_same : (p q : Scenario → Bool) (o : Option Scenario) → ((s : Scenario) → IsScenario g s → p s ≡ q s) →
       IsFirst g order p o →
       IsFirst g order q o
-  first_same p q None h f = λ s i. sym (h s i) ∙ f s i
-  first_same p q (Some s) h f = record {
-    lawful = f.lawful;
-    holds = sym (h s f.lawful) ∙ f.holds;
-    least = λ t i k. f.least t i (h t i ∙ k);
+  first_same p q None alike is_first = λ s is_scenario. sym (alike s is_scenario) ∙ is_first s is_scenario
+  first_same p q (Some s) alike is_first = record {
+    lawful = is_first.lawful;
+    holds = sym (alike s is_first.lawful) ∙ is_first.holds;
+    least = λ t is_scenario passes. is_first.least t is_scenario (alike t is_scenario ∙ passes);
   }
 
   -- if no scenario passes a test, there is no first one
   pub first_none : (p : Scenario → Bool) → ((s : Scenario) → IsScenario g s → p s ≡ false) → IsFirst g order p None
-  first_none p h = h
+  first_none p fail = fail
 
   -- if a is the first scenario that passes p, and b the first that passes q, the earlier of both is the first that
   -- passes p or q
   pub first_or : (p q : Scenario → Bool) (a b : Option Scenario) → IsFirst g order p a → IsFirst g order q b →
       IsFirst g order (λ s. p s || q s) (earlier g order a b)
-  first_or p q None None f h = λ s i. or_from (p s) (q s) (f s i) (h s i)
-  first_or p q None (Some t) f h = record {
-    lawful = h.lawful;
-    holds = or_right (p t) (q t) h.holds;
-    least = λ s i k. ⊎_elim (λ (e : p s ≡ true). absurd (both_ways (p s) (f s i) e)) (λ (e : q s ≡ true). h.least s i e)
-        (or_cases (p s) (q s) k);
+  first_or p q None None p_fails q_fails =
+      λ s is_scenario. or_from (p s) (q s) (p_fails s is_scenario) (q_fails s is_scenario)
+  first_or p q None (Some t) p_fails q_first = record {
+    lawful = q_first.lawful;
+    holds = or_right (p t) (q t) q_first.holds;
+    least =
+        λ s is_scenario passes. ⊎_elim
+        (λ (one_passes : p s ≡ true). absurd (both_ways (p s) (p_fails s is_scenario) one_passes))
+        (λ (one_passes : q s ≡ true). q_first.least s is_scenario one_passes)
+        (or_cases (p s) (q s) passes);
   }
-  first_or p q (Some s) None f h = record {
-    lawful = f.lawful;
-    holds = or_left (p s) (q s) f.holds;
-    least = λ t i k. ⊎_elim (λ (e : p t ≡ true). f.least t i e) (λ (e : q t ≡ true). absurd (both_ways (q t) (h t i) e))
-        (or_cases (p t) (q t) k);
+  first_or p q (Some s) None p_first q_fails = record {
+    lawful = p_first.lawful;
+    holds = or_left (p s) (q s) p_first.holds;
+    least =
+        λ t is_scenario passes. ⊎_elim (λ (one_passes : p t ≡ true). p_first.least t is_scenario one_passes)
+        (λ (one_passes : q t ≡ true). absurd (both_ways (q t) (q_fails t is_scenario) one_passes))
+        (or_cases (p t) (q t) passes);
   }
-  first_or p q (Some s) (Some t) f h = of_two (is_before g order t s) refl
+  first_or p q (Some s) (Some t) p_first q_first = of_two (is_before g order t s) refl
     where
       -- by which of the two scenarios comes before the other; the earlier one is least by transitivity
       of_two : (b : Bool) → is_before g order t s ≡ b → IsFirst g order (λ u. p u || q u) (cond b (Some t) (Some s))
-      of_two true e = record {
-        lawful = h.lawful;
-        holds = or_right (p t) (q t) h.holds;
-        least = λ u i k. ⊎_elim
-            (λ (d : p u ≡ true). not_before_transitive g order t s u (before_one_way g order t s e) (f.least u i d))
-            (λ (d : q u ≡ true). h.least u i d)
-            (or_cases (p u) (q u) k);
+      of_two true t_before = record {
+        lawful = q_first.lawful;
+        holds = or_right (p t) (q t) q_first.holds;
+        least = λ u is_scenario passes. ⊎_elim
+            (λ (one_passes : p u ≡ true).
+            not_before_transitive g order t s u (before_one_way g order t s t_before)
+            (p_first.least u is_scenario one_passes))
+            (λ (one_passes : q u ≡ true). q_first.least u is_scenario one_passes)
+            (or_cases (p u) (q u) passes);
       }
-      of_two false e = record {
-        lawful = f.lawful;
-        holds = or_left (p s) (q s) f.holds;
-        least = λ u i k. ⊎_elim
-            (λ (d : p u ≡ true). f.least u i d)
-            (λ (d : q u ≡ true). not_before_transitive g order s t u e (h.least u i d))
-            (or_cases (p u) (q u) k);
+      of_two false t_not_before = record {
+        lawful = p_first.lawful;
+        holds = or_left (p s) (q s) p_first.holds;
+        least = λ u is_scenario passes. ⊎_elim
+            (λ (one_passes : p u ≡ true). p_first.least u is_scenario one_passes)
+            (λ (one_passes : q u ≡ true).
+            not_before_transitive g order s t u t_not_before (q_first.least u is_scenario one_passes))
+            (or_cases (p u) (q u) passes);
       }
 
   -- the first scenario that passes one of a list of tests is the earliest of theirs
   pub first_of_all : {X : Type 0} (test : X → Scenario → Bool) (answer : X → Option Scenario) (cs : List X) →
       ((c : X) → Contains cs c → IsFirst g order (test c) (answer c)) →
       IsFirst g order (λ s. list_any (λ c. test c s) cs) (first_of g order answer cs)
-  first_of_all test answer [] h = λ s i. refl
-  first_of_all test answer (c ∷ cs) h =
+  first_of_all test answer [] each_first = λ s is_scenario. refl
+  first_of_all test answer (c ∷ cs) each_first =
       first_or (test c) (λ s. list_any (λ d. test d s) cs) (answer c) (first_of g order answer cs)
-      (h c (Contains-first c cs))
-      (first_of_all test answer cs (λ d k. h d (Contains-rest c cs d k)))
+      (each_first c (Contains-first c cs))
+      (first_of_all test answer cs (λ d within. each_first d (Contains-rest c cs d within)))
 
   -- along an order of all processes a test has one answer: two that are the first are equal
   pub one_first : IsPermutation (numbers_below (process_count g)) order →
       (p : Scenario → Bool) (a b : Option Scenario) → IsFirst g order p a → IsFirst g order p b → a ≡ b
-  one_first all p None None f h = refl
-  one_first all p None (Some t) f h = absurd (both_ways (p t) (f t h.lawful) h.holds)
-  one_first all p (Some s) None f h = absurd (both_ways (p s) (h s f.lawful) f.holds)
-  one_first all p (Some s) (Some t) f h = ap Some (one_least g order all (λ u. IsTrue (p u)) s t f h)
+  one_first all p None None a_first b_first = refl
+  one_first all p None (Some t) fails b_first = absurd (both_ways (p t) (fails t b_first.lawful) b_first.holds)
+  one_first all p (Some s) None a_first fails = absurd (both_ways (p s) (fails s a_first.lawful) a_first.holds)
+  one_first all p (Some s) (Some t) a_first b_first =
+      ap Some (one_least g order all (λ u. IsTrue (p u)) s t a_first b_first)

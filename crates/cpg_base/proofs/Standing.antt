@@ -21,22 +21,23 @@ pub record AreWritten (order places : List ℕ) (k : ℕ) : Type 0 where
 module _ (order : List ℕ) (lawful : IsOrder order) where
   -- each process has a place in the order
   pub place_within : (p : ℕ) → p < length order → place order p < length order
-  place_within p h = place-lt order p (Contains-order (length order) order lawful.all p h)
+  place_within p inside = place-lt order p (Contains-order (length order) order lawful.all p inside)
 
   -- at the place of a process stands the process
   pub at_place : (p : ℕ) → p < length order → get_or order (place order p) 0 ≡ p
-  at_place p h = get_or-place order p 0 (Contains-order (length order) order lawful.all p h)
+  at_place p inside = get_or-place order p 0 (Contains-order (length order) order lawful.all p inside)
 
   -- at each place of the order stands a process
   pub process_within : (k : ℕ) → k < length order → get_or order k 0 < length order
-  process_within k h = from_order (length order) order lawful.all (get_or order k 0) (Contains-get_or order k 0 h)
+  process_within k inside =
+      from_order (length order) order lawful.all (get_or order k 0) (Contains-get_or order k 0 inside)
 
   -- the place of the process at a place is that place
   pub place_at : (k : ℕ) → k < length order → place order (get_or order k 0) ≡ k
-  place_at k h =
-      let p = process_within k h in
+  place_at k inside =
+      let process_inside = process_within k inside in
       one_place (length order) order lawful.all (place order (get_or order k 0)) k 0
-      (place_within (get_or order k 0) p) h (at_place (get_or order k 0) p)
+      (place_within (get_or order k 0) process_inside) inside (at_place (get_or order k 0) process_inside)
 
   -- ---- writing down the places of one process after another
 
@@ -44,22 +45,25 @@ module _ (order : List ℕ) (lawful : IsOrder order) where
   -- A process of the order is the next one, or one before it, whose place stays.
   pub written_more : (places : List ℕ) (k : ℕ) → k < length order → AreWritten order places k →
       AreWritten order (set places (get_or order k 0) k) (k + 1)
-  written_more places k h w = record {
-    long = length-set places (get_or order k 0) k ∙ w.long;
-    there = λ j l. elim (cases_eq j k) [
-      | inl e ↦ subst (λ i. get_or (set places (get_or order k 0) k) (get_or order i 0) 0 ≡ i) (sym e)
-          (get_or-set_same places (get_or order k 0) k 0 (omega (arith, process_within k h, w.long)))
-      | inr n ↦ get_or-set_other places (get_or order k 0) (get_or order j 0) k 0
-          (λ e. n (sym (place_at j (omega arith)) ∙ ap (place order) e ∙ place_at k h)) ∙ w.there j (omega arith)
+  written_more places k inside written = record {
+    long = length-set places (get_or order k 0) k ∙ written.long;
+    there = λ j below. elim (cases_eq j k) [
+      | inl is ↦ subst (λ i. get_or (set places (get_or order k 0) k) (get_or order i 0) 0 ≡ i) (sym is)
+          (get_or-set_same places (get_or order k 0) k 0 (omega (arith, process_within k inside, written.long)))
+      | inr differ ↦ get_or-set_other places (get_or order k 0) (get_or order j 0) k 0
+          (λ same. differ (sym (place_at j (omega arith)) ∙ ap (place order) same ∙ place_at k inside))
+          ∙ written.there j (omega arith)
     ];
   }
 
   -- once all are written down, the places are those of the order
   pub all_written : (places : List ℕ) → AreWritten order places (length order) → ArePlaces order places
-  all_written places w = record {
+  all_written places written = record {
     lawful = lawful;
-    long = w.long;
-    there = λ p h. sym (ap (λ q. get_or places q 0) (at_place p h)) ∙ w.there (place order p) (place_within p h);
+    long = written.long;
+    there =
+        λ p inside. sym (ap (λ q. get_or places q 0) (at_place p inside))
+        ∙ written.there (place order p) (place_within p inside);
   }
 
 -- all processes of a graph are an order

@@ -7,13 +7,13 @@ use Rattle.cpg_base.specs.Graph.{Graph, process_count, condition_count, process_
 module _ (g : Graph) (v : ℕ) where
   -- a variable of a count belongs to the process of its number
   pub of_count : process_count g ≤ 128 → v < process_count g → v ≡ process_of_variable g v
-  of_count few l = sym (cond-true _ _ _ (lt-ltb v 128 (omega arith)))
+  of_count few below = sym (cond-true _ _ _ (lt-ltb v 128 (omega arith)))
 
   -- a variable past the counts is that of a condition
   pub value_parts : IsVariable g v → process_count g ≤ v → (128 ≤ v) × (v - 128 < condition_count g)
-  value_parts (inl l) h = absurd (omega arith)
-  value_parts (inr r) h = (r.0, omega (arith, r.0, r.1))
+  value_parts (inl below) past = absurd (omega arith)
+  value_parts (inr is_value) past = (is_value.0, omega (arith, is_value.0, is_value.1))
 
   -- a variable of a value belongs to the process of its condition
   pub of_value : 128 ≤ v → process_of g (v - 128) ≡ process_of_variable g v
-  of_value h = sym (cond-false _ _ _ (le-ltb v 128 h))
+  of_value past = sym (cond-false _ _ _ (le-ltb v 128 past))

@@ -16,15 +16,15 @@ pub record IsProcessWithin (nodes : ℕ) (p : Process) : Type 0 where
   pub divided : 1 ≤ p.parts
   -- it isn't cut into too many parts
   pub parts : p.parts ≤ MOST_PARTS
-  -- the cost of a detection
+  -- a detection costs at most the longest time
   pub alpha : p.alpha ≤ LONGEST
-  -- the cost of a checkpoint
+  -- a checkpoint costs at most the longest time
   pub chi : p.chi ≤ LONGEST
-  -- the cost of a recovery
+  -- a recovery costs at most the longest time
   pub mu : p.mu ≤ LONGEST
-  -- its release, before which it doesn't start
+  -- its release, before which it doesn't start, is no later than the longest time
   pub release : p.release ≤ LONGEST
-  -- its own deadline, if it has one
+  -- its own deadline, if it has one, is no later than the longest time
   pub deadline : IfSome p.deadline (λ d. d ≤ LONGEST)
 
 -- a slot belongs to one of `nodes` nodes, and its length and its bytes are in range

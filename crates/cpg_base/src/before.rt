@@ -5,9 +5,9 @@ ghost use Rattle.cpg_base.specs.Scenario.{IsScenario, is_before};
 
 use crate::{Order, Problem, Scenario};
 
-/// Compares two scenarios at one process. Returns whether the first has fewer faults of it, or as many and a false
-/// condition where the second has a true one; `None` exactly if both have the same faults of it and the same value of
-/// its condition, if it has one.
+/// Compares two scenarios at one process. Returns whether the first has fewer faults there, or as many and a false
+/// condition where the second has a true one; `None` exactly if both have as many faults there and the same value of
+/// the process's condition, if it has one.
 fn at_process(problem: &Problem, process: u32, first: &Scenario, second: &Scenario) -> Option<bool>
     requires process { process < process_count problem.now }
     requires first { IsScenario problem.now first.now }
@@ -36,8 +36,9 @@ fn at_process(problem: &Problem, process: u32, first: &Scenario, second: &Scenar
     None
 }
 
-/// Returns whether the first scenario comes before the second: at the first process in the order at which they differ it
-/// has fewer faults, or as many and its condition is false. If they don't differ, it doesn't.
+/// Returns whether the first scenario comes before the second: at the first process in the order at which they differ,
+/// the first has fewer faults, or as many and a false value of the process's condition. If they don't differ, it
+/// doesn't come before the second.
 pub fn is_before(problem: &Problem, order: &Order, first: &Scenario, second: &Scenario) -> bool
     requires order { length order.now ≡ process_count problem.now }
     requires first { IsScenario problem.now first.now }

@@ -31,52 +31,65 @@ module _ (g : Graph) (within : IsWithinLimits g) (order : List ℕ) (topological
 
   -- the list has for each item its frozen time if that is before the moment, as `cut_at` says
   cut_is : (m x : ℕ) → x < item_count g → get_or (cut m) x None ≡ cut_at m x
-  cut_is m x l = get_or-map-below (cut_at m) (item_count g) x None l
+  cut_is m x below = get_or-map-below (cut_at m) (item_count g) x None below
 
   -- an item before the moment keeps its frozen time
   cut_before : (m x : ℕ) → x < item_count g → moment g order x < m → get_or (cut m) x None ≡ get_or frozen x None
-  cut_before m x l h = cut_is m x l ∙ cond-true (ltb (moment g order x) m) _ _ (lt-ltb (moment g order x) m h)
+  cut_before m x below sooner =
+      cut_is m x below ∙ cond-true (ltb (moment g order x) m) _ _ (lt-ltb (moment g order x) m sooner)
 
   -- an item at the moment or later has no frozen time in the list
   cut_after : (m x : ℕ) → x < item_count g → m ≤ moment g order x → get_or (cut m) x None ≡ None
-  cut_after m x l h = cut_is m x l ∙ cond-false (ltb (moment g order x) m) _ _ (le-ltb (moment g order x) m h)
+  cut_after m x below no_sooner =
+      cut_is m x below ∙ cond-false (ltb (moment g order x) m) _ _ (le-ltb (moment g order x) m no_sooner)
 
   -- only frozen items have frozen times
   frozen_if : (x time : ℕ) → get_or frozen x None ≡ Some time → is_frozen g x ≡ true
-  frozen_if x time e =
-      elim (cases_Bool (is_frozen g x)) [ inl f ↦ f | inr f ↦ absurd (none-some time (sym (are.others x f) ∙ e)) ]
+  frozen_if x time has_time =
+      elim (cases_Bool (is_frozen g x)) [
+        | inl frozen_x ↦ frozen_x
+        | inr thawed ↦ absurd (none-some time (sym (are.others x thawed) ∙ has_time))
+      ]
 
   -- if the frozen times before an item's moment are low, so is its own
   low_by : (m x time : ℕ) → AreLow 0 g order (cut m) → x < item_count g → moment g order x ≤ m →
       get_or frozen x None ≡ Some time →
       time ≤ bound 0 (moment g order x) + 32000000000
-  -- Some scenario would have that time (`w`). A run under the earlier frozen times alone (`r`) has the same unfrozen
-  -- time there, as the two agree before the item, and times of such a run are low.
-  low_by m x time low l h e =
-      let w : WouldHave g order frozen x time = (are.each x l (frozen_if x time e)).reached time e in
-      let r = a_run g order (cut m) w.scenario topological in
-      let same : unfrozen_time g order w.scenario w.times x ≡ unfrozen_time g order w.scenario r.0 x =
-      unfrozen_same g order topological w.scenario w.times r.0 x
-      (agree_before g order topological w.scenario w.times r.0 frozen (cut m) w.run r.1 (moment g order x)
-      (λ y i j. sym (cut_before m y i (omega (arith, j, h))))) l in
+  -- Some scenario would have that time (`would`). A run under the earlier frozen times alone (`cut_run`) has the same
+  -- unfrozen time there, as the two agree before the item, and times of such a run are low.
+  low_by m x time low below no_later has_time =
+      let would : WouldHave g order frozen x time =
+      (are.each x below (frozen_if x time has_time)).reached time has_time in
+      let cut_run = a_run g order (cut m) would.scenario topological in
+      let same : unfrozen_time g order would.scenario would.times x ≡ unfrozen_time g order would.scenario cut_run.0 x =
+      unfrozen_same g order topological would.scenario would.times cut_run.0 x
+      (agree_before g order topological would.scenario would.times cut_run.0 frozen (cut m) would.run cut_run.1
+      (moment g order x)
+      (λ y i y_sooner. sym (cut_before m y i (omega (arith, y_sooner, no_later))))) below in
       omega (
         arith,
-        sym same ∙ w.has,
-        unfrozen_low 0 g order (cut m) w.scenario r.0 within topological w.lawful low r.1 x l,
+        sym same ∙ would.has,
+        unfrozen_low 0 g order (cut m) would.scenario cut_run.0 within topological would.lawful low cut_run.1 x below,
       )
 
   -- the frozen times before each moment are low
   low_cut : (m : ℕ) → AreLow 0 g order (cut m)
   -- by induction on the moment: before 0 there is none, and one at the moment is low by those before it
-  low_cut zero = record { low = λ x time l e. absurd (none-some time (sym (cut_after 0 x l (omega arith)) ∙ e)) }
+  low_cut zero = record {
+    low = λ x time below has_time. absurd (none-some time (sym (cut_after 0 x below (omega arith)) ∙ has_time));
+  }
   low_cut (suc m) = record {
-    low = λ x time l e. elim (cases_lt (moment g order x) (suc m)) [
-      | inl h ↦ low_by m x time (low_cut m) l (omega (arith, h)) (sym (cut_before (suc m) x l h) ∙ e)
-      | inr h ↦ absurd (none-some time (sym (cut_after (suc m) x l h) ∙ e))
+    low = λ x time below has_time. elim (cases_lt (moment g order x) (suc m)) [
+      | inl sooner ↦ low_by m x time (low_cut m) below (omega (arith, sooner))
+          (sym (cut_before (suc m) x below sooner) ∙ has_time)
+      | inr no_sooner ↦ absurd (none-some time (sym (cut_after (suc m) x below no_sooner) ∙ has_time))
     ];
   }
 
   -- all frozen times are early, as each is low by those before it
   pub frozen_early : AreEarly frozen
   frozen_early = early_from_low g order frozen within topological are.count
-      (record { low = λ x time l e. low_by (moment g order x) x time (low_cut (moment g order x)) l (omega arith) e })
+      (record {
+        low = λ x time below has_time.
+            low_by (moment g order x) x time (low_cut (moment g order x)) below (omega arith) has_time;
+      })

@@ -27,13 +27,13 @@ use Rattle.cpg_run.proofs.Runs.{has_time}
 module _ (g : Graph) (urgency order : List ℕ) (frozen : List (Option ℕ)) (timed : IsTimed g urgency order frozen) where
   -- two scenarios are the same or differ: neither is before the other along the order just if they are the same
   one_or_two : (s t : Scenario) → IsScenario g s → IsScenario g t → (s ≡ t) ⊎ (s ≢ t)
-  one_or_two s t a b = elim (cases_Bool (is_before g urgency s t)) [
-    | inl before ↦ inr (λ e. both_ways (is_before g urgency s t)
-        (subst (λ u. is_before g urgency s u ≡ false) e (before_irreflexive g urgency s)) before)
+  one_or_two s t s_lawful t_lawful = elim (cases_Bool (is_before g urgency s t)) [
+    | inl before ↦ inr (λ same. both_ways (is_before g urgency s t)
+        (subst (λ u. is_before g urgency s u ≡ false) same (before_irreflexive g urgency s)) before)
     | inr no_sooner ↦ elim (cases_Bool (is_before g urgency t s)) [
-      | inl after ↦ inr (λ e. both_ways (is_before g urgency t s)
-          (subst (λ u. is_before g urgency u s ≡ false) e (before_irreflexive g urgency s)) after)
-      | inr no_later ↦ inl (before_total g urgency timed.admitted.urgent.all s t a b no_sooner no_later)
+      | inl after ↦ inr (λ same. both_ways (is_before g urgency t s)
+          (subst (λ u. is_before g urgency u s ≡ false) same (before_irreflexive g urgency s)) after)
+      | inr no_later ↦ inl (before_total g urgency timed.admitted.urgent.all s t s_lawful t_lawful no_sooner no_later)
     ]
   ]
 
@@ -56,13 +56,13 @@ module _ (g : Graph) (urgency order : List ℕ) (frozen : List (Option ℕ)) (ti
         (e : Column) × IsOwn e × (lows g e.cube ≡ lows g (own_cube s))
     -- the entry has the item's time in the one run, and the cube of what is carried
     own_entry s law on =
-        let r = a_run g order frozen s timed.admitted.topological in (
-          record { time = time_in r.0 x; cube = own_cube s },
+        let its_run = a_run g order frozen s timed.admitted.topological in (
+          record { time = time_in its_run.0 x; cube = own_cube s },
           entry_of_least g urgency order frozen rows x timed l earlier s law on (own_cube s)
-              (cube_there g.faults (carried g order rows s x)) (time_in r.0 x)
-              (λ t run. subst (λ (u : Times). get_or u.times x None ≡ Some (time_in r.0 x))
-              (run_unique g order timed.admitted.topological frozen s r.0 t r.1 run)
-              (has_time g order frozen s r.0 r.1 x l on)),
+              (cube_there g.faults (carried g order rows s x)) (time_in its_run.0 x)
+              (λ t run. subst (λ (u : Times). get_or u.times x None ≡ Some (time_in its_run.0 x))
+              (run_unique g order timed.admitted.topological frozen s its_run.0 t its_run.1 run)
+              (has_time g order frozen s its_run.0 its_run.1 x l on)),
           refl,
         )
 
@@ -74,11 +74,11 @@ module _ (g : Graph) (urgency order : List ℕ) (frozen : List (Option ℕ)) (ti
     there_or_not (e ∷ es) own s law = elim (one_or_two (lows g e.cube) s (own e (Contains-first e es)).lawful law) [
       | inl same ↦ inl (subst (Contains (map (λ (d : Column). lows g d.cube) (e ∷ es))) same
           (Contains-first (lows g e.cube) (map (λ (d : Column). lows g d.cube) es)))
-      | inr other ↦ elim (there_or_not es (λ d c. own d (Contains-rest e es d c)) s law) [
-        | inl c ↦ inl (Contains-rest (lows g e.cube) (map (λ (d : Column). lows g d.cube) es) s c)
-        | inr none ↦ inr (λ d c is. elim (Contains-cases e es d c) [
-          | inl f ↦ other (ap (λ (z : Column). lows g z.cube) f ∙ sym is)
-          | inr k ↦ none d k is
+      | inr other ↦ elim (there_or_not es (λ d listed. own d (Contains-rest e es d listed)) s law) [
+        | inl there ↦ inl (Contains-rest (lows g e.cube) (map (λ (d : Column). lows g d.cube) es) s there)
+        | inr none ↦ inr (λ d listed is. elim (Contains-cases e es d listed) [
+          | inl is_first ↦ other (ap (λ (z : Column). lows g z.cube) is_first ∙ sym is)
+          | inr in_rest ↦ none d in_rest is
         ])
       ]
     ]
@@ -114,46 +114,49 @@ module _ (g : Graph) (urgency order : List ℕ) (frozen : List (Option ℕ)) (ti
             record {
               own = rest.1.own;
               apart = rest.1.apart;
-              all = λ t c on. elim (Contains-cases s ss t c) [
-                | inl e ↦ absurd (both_ways (item_active g s.values (item_at g x)) off
-                    (subst (λ (u : Scenario). item_active g u.values (item_at g x) ≡ true) (sym e) on))
-                | inr k ↦ rest.1.all t k on
+              all = λ t listed on. elim (Contains-cases s ss t listed) [
+                | inl is_s ↦ absurd (both_ways (item_active g s.values (item_at g x)) off
+                    (subst (λ (u : Scenario). item_active g u.values (item_at g x) ≡ true) (sym is_s) on))
+                | inr in_rest ↦ rest.1.all t in_rest on
               ];
             },
           )
           -- the item is active: its own entry there is compared with those of the other scenarios
-          | inl on ↦ let e = own_entry s (law s (Contains-first s ss)) on in
-              elim (there_or_not rest.0 rest.1.own (lows g e.0.cube) e.1.lawful) [
+          | inl on ↦ let entry = own_entry s (law s (Contains-first s ss)) on in
+              elim (there_or_not rest.0 rest.1.own (lows g entry.0.cube) entry.1.lawful) [
                 -- the entry is there already
                 | inl there ↦ (
                   rest.0,
                   record {
                     own = rest.1.own;
                     apart = rest.1.apart;
-                    all = λ t c act. elim (Contains-cases s ss t c) [
-                      | inl f ↦ subst
+                    all = λ t listed act. elim (Contains-cases s ss t listed) [
+                      | inl is_s ↦ subst
                           (λ (u : Scenario).
-                          Contains (map (λ (d : Column). lows g d.cube) rest.0) (lows g (own_cube u))) f
-                          (subst (Contains (map (λ (d : Column). lows g d.cube) rest.0)) e.2 there)
-                      | inr k ↦ rest.1.all t k act
+                          Contains (map (λ (d : Column). lows g d.cube) rest.0) (lows g (own_cube u))) is_s
+                          (subst (Contains (map (λ (d : Column). lows g d.cube) rest.0)) entry.2 there)
+                      | inr in_rest ↦ rest.1.all t in_rest act
                     ];
                   },
                 )
                 -- the entry is new, so it is put in front
                 | inr none ↦ (
-                  e.0 ∷ rest.0,
+                  entry.0 ∷ rest.0,
                   record {
                     own =
-                        λ d c.
-                        elim (Contains-cases e.0 rest.0 d c) [ inl f ↦ subst IsOwn f e.1 | inr k ↦ rest.1.own d k ];
-                    apart = AllPairs-cons_by IsApart e.0 rest.0 none rest.1.apart;
-                    all = λ t c act. elim (Contains-cases s ss t c) [
-                      | inl f ↦ subst (λ (u : Scenario).
-                          Contains (map (λ (d : Column). lows g d.cube) (e.0 ∷ rest.0)) (lows g (own_cube u))) f
-                          (subst (Contains (map (λ (d : Column). lows g d.cube) (e.0 ∷ rest.0))) e.2
-                          (Contains-first (lows g e.0.cube) (map (λ (d : Column). lows g d.cube) rest.0)))
-                      | inr k ↦ Contains-rest (lows g e.0.cube) (map (λ (d : Column). lows g d.cube) rest.0)
-                          (lows g (own_cube t)) (rest.1.all t k act)
+                        λ d listed.
+                        elim (Contains-cases entry.0 rest.0 d listed) [
+                          | inl is_entry ↦ subst IsOwn is_entry entry.1
+                          | inr in_rest ↦ rest.1.own d in_rest
+                        ];
+                    apart = AllPairs-cons_by IsApart entry.0 rest.0 none rest.1.apart;
+                    all = λ t listed act. elim (Contains-cases s ss t listed) [
+                      | inl is_s ↦ subst (λ (u : Scenario).
+                          Contains (map (λ (d : Column). lows g d.cube) (entry.0 ∷ rest.0)) (lows g (own_cube u))) is_s
+                          (subst (Contains (map (λ (d : Column). lows g d.cube) (entry.0 ∷ rest.0))) entry.2
+                          (Contains-first (lows g entry.0.cube) (map (λ (d : Column). lows g d.cube) rest.0)))
+                      | inr in_rest ↦ Contains-rest (lows g entry.0.cube) (map (λ (d : Column). lows g d.cube) rest.0)
+                          (lows g (own_cube t)) (rest.1.all t in_rest act)
                     ];
                   },
                 )
@@ -164,14 +167,14 @@ module _ (g : Graph) (urgency order : List ℕ) (frozen : List (Option ℕ)) (ti
     pub entries_exist : (entries : List Column) × AreEntriesOf g order frozen rows x entries
     -- a scenario in which the item is active carries the same as its least one, which is among those gone over
     entries_exist =
-        let r = entries_over (scenarios g) (scenario_lawful g) in (
-          r.0,
+        let over_all = entries_over (scenarios g) (scenario_lawful g) in (
+          over_all.0,
           record {
-            each = r.1.own;
-            apart = r.1.apart;
-            all = λ s e is least. subst (Contains (map (λ (d : Column). lows g d.cube) r.0))
+            each = over_all.1.own;
+            apart = over_all.1.apart;
+            all = λ s e is least. subst (Contains (map (λ (d : Column). lows g d.cube) over_all.0))
                 (same_least g (carried g order rows s x) (own_cube s) e.cube
                 (cube_there g.faults (carried g order rows s x)) is.cube ∙ least)
-                (r.1.all s (Contains-scenarios g s is.lawful) is.active);
+                (over_all.1.all s (Contains-scenarios g s is.lawful) is.active);
           },
         )

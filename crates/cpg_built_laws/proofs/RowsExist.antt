@@ -22,17 +22,19 @@ use Rattle.cpg_built_laws.proofs.MergeExists.{merge_exists}
 chosen : {X : Type 0} (P : ℕ → X → Type 0) (d : X) (n : ℕ) → ((x : ℕ) → x < n → (c : X) × P x c) →
     (cs : List X) × (length cs ≡ n) × ((x : ℕ) → x < n → P x (get_or cs x d))
 -- by induction on n: the last one is put behind the others
-chosen P d zero each = ([], refl, λ x l. absurd (omega (arith, l)))
+chosen P d zero each = ([], refl, λ x below. absurd (omega (arith, below)))
 chosen P d (suc n) each =
-    let r = chosen P d n (λ x l. each x (omega (arith, l))) in
-    let c = each n (omega arith) in (
-      r.0 ++ c.0 ∷ [],
-      length-append r.0 (c.0 ∷ []) ∙ omega (arith, r.1),
-      λ x l. elim (cases_eq x n) [
-        | inl e ↦ subst (λ y. P y (get_or (r.0 ++ c.0 ∷ []) y d)) (sym e)
-            (subst (P n) (sym (ap (λ k. get_or (r.0 ++ c.0 ∷ []) k d) (sym r.1) ∙ get_or-append_seam r.0 c.0 [] d)) c.1)
-        | inr ne ↦ let h : x < n = omega (arith, l, ne) in
-            subst (P x) (sym (get_or_append_left r.0 (c.0 ∷ []) d x (omega (arith, h, r.1)))) (r.2 x h)
+    let others = chosen P d n (λ x below. each x (omega (arith, below))) in
+    let last = each n (omega arith) in (
+      others.0 ++ last.0 ∷ [],
+      length-append others.0 (last.0 ∷ []) ∙ omega (arith, others.1),
+      λ x below. elim (cases_eq x n) [
+        | inl is_n ↦ subst (λ y. P y (get_or (others.0 ++ last.0 ∷ []) y d)) (sym is_n)
+            (subst (P n) (sym (ap (λ k. get_or (others.0 ++ last.0 ∷ []) k d) (sym others.1)
+            ∙ get_or-append_seam others.0 last.0 [] d)) last.1)
+        | inr other ↦ let before : x < n = omega (arith, below, other) in
+            subst (P x) (sym (get_or_append_left others.0 (last.0 ∷ []) d x (omega (arith, before, others.1))))
+            (others.2 x before)
       ],
     )
 
@@ -60,52 +62,65 @@ module _ (g : Graph) (urgency order : List ℕ) (frozen : List (Option ℕ)) (ti
 
     -- the rows are right for all places up to i
     earlier : (bound : ℕ) → bound ≤ i → AreRowsBefore g order frozen bound rows
-    earlier bound h =
-        rows_before g urgency order frozen timed rows bound (λ y e. are.each y e.0 (omega (arith, e.1, h)))
+    earlier bound no_more =
+        rows_before g urgency order frozen timed rows bound
+        (λ y is_before. are.each y is_before.0 (omega (arith, is_before.1, no_more)))
 
     -- each item has such columns: one of the process at i has entries, and these have a merge; any other keeps its own
     next_row : (x : ℕ) → x < item_count g → (columns : List Column) × IsNext x columns
     -- by whether the item's producer stands at i
-    next_row x l = elim (cases_eq (place order (producer g x)) i) [
+    next_row x below = elim (cases_eq (place order (producer g x)) i) [
       | inl here ↦
           let earlier_rows = earlier (place order (producer g x)) (omega (arith, here)) in
-          let e = entries_exist g urgency order frozen timed rows x l earlier_rows in
-          let m = merge_exists g timed.admitted.formed.few_processes urgency timed.admitted.urgent.all e.0
-          (entries_have_times g urgency order frozen rows x e.0 timed l earlier_rows e.1).0 in (
-            m.0,
-            record { same = λ h. absurd (omega (arith, h, here)); entries = e.0; found = λ h. e.1; merge = λ h. m.1 },
+          let its_entries = entries_exist g urgency order frozen timed rows x below earlier_rows in
+          let its_merge = merge_exists g timed.admitted.formed.few_processes urgency timed.admitted.urgent.all
+          its_entries.0
+          (entries_have_times g urgency order frozen rows x its_entries.0 timed below earlier_rows its_entries.1).0 in (
+            its_merge.0,
+            record {
+              same = λ before. absurd (omega (arith, before, here));
+              entries = its_entries.0;
+              found = λ at_i. its_entries.1;
+              merge = λ at_i. its_merge.1;
+            },
           )
       | inr there ↦ (
         row_at rows x,
-        record { same = λ h. refl; entries = []; found = λ h. absurd (there h); merge = λ h. absurd (there h) },
+        record {
+          same = λ before. refl;
+          entries = [];
+          found = λ at_i. absurd (there at_i);
+          merge = λ at_i. absurd (there at_i);
+        },
       )
     ]
 
     -- there are rows that are right up to the place behind i
     next_rows : (next : List (List Column)) × AreRowsTo (i + 1) next
     next_rows =
-        let r = chosen IsNext [] (item_count g) next_row in
+        let next_columns = chosen IsNext [] (item_count g) next_row in
         -- the rows before the place stay the same
-        let same : (bound : ℕ) → bound ≤ i → SameRowsBefore g order bound rows r.0 =
-        λ bound h y e. sym ((r.2 y e.0).same (omega (arith, e.1, h))) in (
-          r.0,
+        let same : (bound : ℕ) → bound ≤ i → SameRowsBefore g order bound rows next_columns.0 =
+        λ bound no_more y is_before.
+        sym ((next_columns.2 y is_before.0).same (omega (arith, is_before.1, no_more))) in (
+          next_columns.0,
           record {
-            count = r.1;
-            each = λ x l h. elim (cases_eq (place order (producer g x)) i) [
+            count = next_columns.1;
+            each = λ x below no_later. elim (cases_eq (place order (producer g x)) i) [
               -- an item of the process at this place: its row is made of the rows before
               | inl here ↦
-                  let is : IsNext x (row_at r.0 x) = r.2 x l in
+                  let is : IsNext x (row_at next_columns.0 x) = next_columns.2 x below in
                   record {
                     entries = is.entries;
-                    are = entries_alike g urgency order frozen timed rows r.0 x l
+                    are = entries_alike g urgency order frozen timed rows next_columns.0 x below
                         (same (place order (producer g x)) (omega (arith, here))) is.entries (is.found here);
                     merge = is.merge here;
                   }
               -- an item of an earlier process keeps its row
               | inr there ↦
-                  let sooner : place order (producer g x) < i = omega (arith, h, there) in
-                  row_alike g urgency order frozen timed rows r.0 x l (same (place order (producer g x))
-                  (omega (arith, sooner))) (sym ((r.2 x l).same sooner)) (are.each x l sooner)
+                  let sooner : place order (producer g x) < i = omega (arith, no_later, there) in
+                  row_alike g urgency order frozen timed rows next_columns.0 x below (same (place order (producer g x))
+                  (omega (arith, sooner))) (sym ((next_columns.2 x below).same sooner)) (are.each x below sooner)
             ];
           },
         )
@@ -114,22 +129,22 @@ module _ (g : Graph) (urgency order : List ℕ) (frozen : List (Option ℕ)) (ti
   rows_to : (i : ℕ) → (rows : List (List Column)) × AreRowsTo i rows
   -- by induction on the place: before the first one any rows will do
   rows_to zero =
-      let r = chosen (λ x (c : List Column). Unit {0}) [] (item_count g) (λ x l. ([], tt)) in
-      (r.0, record { count = r.1; each = λ x l h. absurd (omega (arith, h)) })
+      let any_rows = chosen (λ x (c : List Column). Unit {0}) [] (item_count g) (λ x below. ([], tt)) in
+      (any_rows.0, record { count = any_rows.1; each = λ x l before. absurd (omega (arith, before)) })
   rows_to (suc i) =
-      let r = rows_to i in
-      let s = next_rows i r.0 r.1 in
-      (s.0, record { count = s.1.count; each = λ x l h. s.1.each x l (omega (arith, h)) })
+      let so_far = rows_to i in
+      let next = next_rows i so_far.0 so_far.1 in
+      (next.0, record { count = next.1.count; each = λ x below before. next.1.each x below (omega (arith, before)) })
 
   -- there are rows that are right for all items
   pub rows_exist : (rows : List (List Column)) × AreRows g urgency order frozen rows
   -- the rows that are right up to the last place are right for all items, whose producers stand in the order
   rows_exist =
-      let r = rows_to (process_count g) in (
-        r.0,
+      let found = rows_to (process_count g) in (
+        found.0,
         record {
-          count = r.1.count;
-          each = λ x l. r.1.each x l (place_in_order (process_count g) order timed.admitted.topological.all
-              (producer g x) (omega (arith, producer_in_range g order timed.admitted.topological x l)));
+          count = found.1.count;
+          each = λ x below. found.1.each x below (place_in_order (process_count g) order timed.admitted.topological.all
+              (producer g x) (omega (arith, producer_in_range g order timed.admitted.topological x below)));
         },
       )

@@ -41,7 +41,7 @@ items_same row (x ∷ xs) each =
 
 -- given: rows that can be written, of a well-formed graph within the limits
 module _ (g : Graph) (within : IsWithinLimits g) (formed : WellFormed g) (rows : List Row)
-    (w : AreWritable g rows) where
+    (writable : AreWritable g rows) where
   -- the table of a node: its head, and the rows of what it starts, sends and hears
   abbrev table_of : ℕ → NodeTable
   table_of node = record {
@@ -56,18 +56,18 @@ module _ (g : Graph) (within : IsWithinLimits g) (formed : WellFormed g) (rows :
   -- the table made for a node has the node's head and the rows of its items
   table_with : (node : ℕ) → node < length g.nodes → IsTableWith g rows node (table_of node)
   -- each part of the node's list of items is mapped to their rows
-  table_with node l =
+  table_with node below =
       let are : AreRowsOf (head_of g) node (rows_of_items g rows (lists_of (head_of g) node)) =
-      are_rows g within rows w node l in
+      are_rows g within rows writable node below in
       record {
         table = record {
           faults = refl;
           first_broadcast = refl;
           own = refl;
           starts = items_same (row_for rows) (starts_of (head_of g) node)
-              (λ x c. item_is g rows w x (start_below g within node x c));
+              (λ x c. item_is g rows writable x (start_below g within node x c));
           sends = items_same (row_for rows) (sends_of (head_of g) node)
-              (λ x c. item_is g rows w x (send_below g within node x c));
+              (λ x c. item_is g rows writable x (send_below g within node x c));
           hears = items_same (heard_row g rows) (hears_of (head_of g) node) (λ x c. refl);
           lawful = are.lawful;
         };
@@ -82,8 +82,8 @@ module _ (g : Graph) (within : IsWithinLimits g) (formed : WellFormed g) (rows :
   are_nodes : AreNodeTables g rows (length g.nodes) nodes
   are_nodes = record {
     long = length-map-range_with_len table_of 0 (length g.nodes);
-    each = λ node l. subst (IsTableWith g rows node)
-        (sym (get_or-map-below table_of (length g.nodes) node empty_table l)) (table_with node l);
+    each = λ node below. subst (IsTableWith g rows node)
+        (sym (get_or-map-below table_of (length g.nodes) node empty_table below)) (table_with node below);
   }
 
   -- the tables of all nodes, with the graph's head
@@ -92,7 +92,7 @@ module _ (g : Graph) (within : IsWithinLimits g) (formed : WellFormed g) (rows :
 
   -- these tables have the rows
   pub is_written : AreTablesWith g rows written
-  is_written = tables_with g within formed rows w nodes are_nodes written refl refl
+  is_written = tables_with g within formed rows writable nodes are_nodes written refl refl
 
 -- ---- the rows
 
@@ -117,9 +117,9 @@ numbered_columns columns =
     let count : length (columns_of_rows (numbered columns)) ≡ length (numbered columns) =
     length-map (numbered columns) (λ (r : Row). r.columns) in
     ext_get_or [] (columns_of_rows (numbered columns)) columns (count ∙ long)
-    (λ k l. get_or-map (λ (r : Row). r.columns) (numbered columns) k blank [] (omega (arith, l, count))
+    (λ k below. get_or-map (λ (r : Row). r.columns) (numbered columns) k blank [] (omega (arith, below, count))
     ∙ ap (λ (r : Row). r.columns)
-    (get_or-map-below (numbered_row columns) (length columns) k blank (omega (arith, l, count, long))))
+    (get_or-map-below (numbered_row columns) (length columns) k blank (omega (arith, below, count, long))))
 
 -- the whole: there are tables under each topological order in which no item is too wide
 pub tables_exist : TablesExist
@@ -127,15 +127,15 @@ tables_exist g urgency order guards frozen admitted topological narrow times =
     let timed : IsTimed g urgency order frozen =
     record { admitted = admitted_under g urgency order guards admitted topological; frozen_times = times } in
     -- the rows of all items, by number
-    let r = rows_exist g urgency order frozen timed in
-    let rows = numbered r.0 in
+    let found_rows = rows_exist g urgency order frozen timed in
+    let rows = numbered found_rows.0 in
     let are : AreRows g urgency order frozen (columns_of_rows rows) =
-    subst (AreRows g urgency order frozen) (sym (numbered_columns r.0)) r.1 in
+    subst (AreRows g urgency order frozen) (sym (numbered_columns found_rows.0)) found_rows.1 in
     -- they are rows as a builder finds them, with these frozen times
     let found : AreRowsFound g urgency order frozen rows = record {
       frozen_times = times;
       early = frozen_early g admitted.limits order topological frozen times;
-      items = numbered_items r.0 ∙ ap numbers_below r.1.count;
+      items = numbered_items found_rows.0 ∙ ap numbers_below found_rows.1.count;
       found = listed_rows_carry g urgency order frozen (columns_of_rows rows) timed are;
     } in
     -- within the limits, so they can be written

@@ -25,38 +25,49 @@ use Rattle.cpg_bus.specs.Plan.{broadcasts_of, queue_of}
 -- a map of a list rises if the list rises by what it gives
 Rises-map : {X Y : Type 0} (R : Y → Y → Type 0) (f : X → Y) (xs : List X) → Rises (λ a b. R (f a) (f b)) xs →
     Rises R (map f xs)
-Rises-map R f [] h = tt
-Rises-map R f (x ∷ xs) h =
-    (λ y k. let r = Contains-map_parts f xs y k in subst (R (f x)) r.2 (h.0 r.0 r.1), Rises-map R f xs h.1)
+Rises-map R f [] rises = tt
+Rises-map R f (x ∷ xs) rises = (
+  λ y among.
+      let of_element = Contains-map_parts f xs y among in
+      subst (R (f x)) of_element.2 (rises.0 of_element.0 of_element.1),
+  Rises-map R f xs rises.1,
+)
 
 -- if xs rises by R, the number at place i is related to that at each later place j
 at_places : (R : ℕ → ℕ → Type 0) (xs : List ℕ) → Rises R xs → (i j d : ℕ) → i < j → j < length xs →
     R (get_or xs i d) (get_or xs j d)
-at_places R [] h i j d l m = absurd (omega arith)
-at_places R (x ∷ xs) h zero zero d l m = absurd (omega arith)
-at_places R (x ∷ xs) h zero (suc j) d l m = h.0 (get_or xs j d) (Contains-get_or xs j d (omega arith))
-at_places R (x ∷ xs) h (suc i) zero d l m = absurd (omega arith)
-at_places R (x ∷ xs) h (suc i) (suc j) d l m = at_places R xs h.1 i j d (omega arith) (omega arith)
+at_places R [] rises i j d less below = absurd (omega arith)
+at_places R (x ∷ xs) rises zero zero d less below = absurd (omega arith)
+at_places R (x ∷ xs) rises zero (suc j) d less below = rises.0 (get_or xs j d) (Contains-get_or xs j d (omega arith))
+at_places R (x ∷ xs) rises (suc i) zero d less below = absurd (omega arith)
+at_places R (x ∷ xs) rises (suc i) (suc j) d less below = at_places R xs rises.1 i j d (omega arith) (omega arith)
 
 -- the first k elements of a list that rises by a rank are those below the k-th
 module _ (rank : ℕ → ℕ) (xs : List ℕ) (rises : Rises (λ a b. rank a < rank b) xs) (k : ℕ) (inside : k < length xs) where
   -- each of the first k elements has a lower rank than the k-th
   pub below_first : (y : ℕ) → Contains (take k xs) y → rank y < rank (get_or xs k 0)
-  below_first y c =
-      let n = length-take k xs in
-      let l : c.0 < k = omega (arith, c.1) in
-      let at : get_or xs c.0 0 ≡ y = get_or_default xs c.0 0 y (omega arith) ∙ sym (get_or-take k xs c.0 y l) ∙ c.2 in
-      subst (λ z. rank z < rank (get_or xs k 0)) at (at_places (λ a b. rank a < rank b) xs rises c.0 k 0 l inside)
+  below_first y among_first =
+      let length_taken = length-take k xs in
+      let earlier : among_first.0 < k = omega (arith, among_first.1) in
+      let at : get_or xs among_first.0 0 ≡ y = get_or_default xs among_first.0 0 y (omega arith)
+      ∙ sym (get_or-take k xs among_first.0 y earlier) ∙ among_first.2 in
+      subst (λ z. rank z < rank (get_or xs k 0)) at (at_places (λ a b. rank a < rank b)
+      xs rises among_first.0 k 0 earlier inside)
 
   -- Each element with a lower rank than the k-th is one of the first k.
   -- Its place isn't k or later, since ranks rise along the list.
   pub in_first : (y : ℕ) → Contains xs y → rank y < rank (get_or xs k 0) → Contains (take k xs) y
-  in_first y c less =
-      let at : get_or xs c.0 0 ≡ y = get_or_default xs c.0 0 y c.1 ∙ c.2 in
-      elim (cases_order c.0 k) [
-        | inl e ↦ absurd (omega (arith, ap (λ i. rank (get_or xs i 0)) e, ap rank at))
-        | inr (inl l) ↦ (c.0, omega (arith, length-take k xs), get_or-take k xs c.0 y l ∙ c.2)
-        | inr (inr l) ↦ absurd (omega (arith, at_places (λ a b. rank a < rank b) xs rises k c.0 0 l c.1, ap rank at))
+  in_first y among less =
+      let at : get_or xs among.0 0 ≡ y = get_or_default xs among.0 0 y among.1 ∙ among.2 in
+      elim (cases_order among.0 k) [
+        | inl equal ↦ absurd (omega (arith, ap (λ i. rank (get_or xs i 0)) equal, ap rank at))
+        | inr (inl less) ↦ (among.0, omega (arith, length-take k xs), get_or-take k xs among.0 y less ∙ among.2)
+        | inr (inr greater) ↦ absurd (omega (
+          arith,
+          at_places (λ a b. rank a < rank b)
+              xs rises k among.0 0 greater among.1,
+          ap rank at,
+        ))
       ]
 
 module _ (g : Graph) where
@@ -82,71 +93,74 @@ module _ (g : Graph) where
   a_broadcast : (p x : ℕ) (o : Option ℕ) → condition_of g p ≡ o → Contains (broadcasts_of g o) x →
       (c : ℕ) × (c < condition_count g) × (x ≡ broadcast_item g c) × (process_of g c ≡ p) ×
       (ltb 1 (length g.nodes) ≡ true)
-  a_broadcast p x None e k = absurd (Contains-nil x k)
-  a_broadcast p x (Some c) e k = elim (cases_Bool (ltb 1 (length g.nodes))) [
+  a_broadcast p x None p_is among = absurd (Contains-nil x among)
+  a_broadcast p x (Some c) p_is among = elim (cases_Bool (ltb 1 (length g.nodes))) [
     | inl many ↦
-        elim (Contains-cases (broadcast_item g c) [] x (subst (λ xs. Contains xs x) (cond-true _ _ _ many) k)) [
-          | inl is ↦ (c, condition_of_below g p c e, sym is, process_of_condition_of g p c e, many)
+        elim (Contains-cases (broadcast_item g c) [] x (subst (λ xs. Contains xs x) (cond-true _ _ _ many) among)) [
+          | inl is ↦ (c, condition_of_below g p c p_is, sym is, process_of_condition_of g p c p_is, many)
           | inr none ↦ absurd (Contains-nil x none)
         ]
-    | inr one ↦ absurd (Contains-nil x (subst (λ xs. Contains xs x) (cond-false _ _ _ one) k))
+    | inr one ↦ absurd (Contains-nil x (subst (λ xs. Contains xs x) (cond-false _ _ _ one) among))
   ]
 
   -- the messages of a process are those of its outputs that go over the bus
   a_message : (p x : ℕ) → Contains (map (message_item g) (filter (is_message g) (outputs g p))) x →
       (e : ℕ) × (e < edge_count g) × (x ≡ message_item g e) × (source g e ≡ p) × (is_message g e ≡ true)
-  a_message p x k =
-      let r = Contains-map_parts (message_item g) (filter (is_message g) (outputs g p)) x k in
-      let f = Contains-filter_parts (is_message g) (outputs g p) r.0 r.1 in
-      let o = outputs_parts g p r.0 f.0 in
-      (r.0, o.0, sym r.2, o.1, f.1)
+  a_message p x among =
+      let of_output = Contains-map_parts (message_item g) (filter (is_message g) (outputs g p)) x among in
+      let on_bus = Contains-filter_parts (is_message g) (outputs g p) of_output.0 of_output.1 in
+      let output_parts = outputs_parts g p of_output.0 on_bus.0 in
+      (of_output.0, output_parts.0, sym of_output.2, output_parts.1, on_bus.1)
 
   -- All that a process sends is made by it and goes over the bus.
   -- It is the broadcast of its condition, or a message of one of its outputs.
   pub in_queue : (p x : ℕ) → Contains (queue_of g p) x → IsSentOf p x
-  in_queue p x k = elim (Contains-append_cases (broadcasts_of g (condition_of g p))
-      (map (message_item g) (filter (is_message g) (outputs g p))) x k) [
-        | inl b ↦ let r = a_broadcast p x (condition_of g p) refl b in
-            let is = ap (item_at g) r.2 ∙ item_at-broadcast g r.0 in
+  in_queue p x among = elim (Contains-append_cases (broadcasts_of g (condition_of g p))
+      (map (message_item g) (filter (is_message g) (outputs g p))) x among) [
+        | inl broadcast ↦ let its_parts = a_broadcast p x (condition_of g p) refl broadcast in
+            let is = ap (item_at g) its_parts.2 ∙ item_at-broadcast g its_parts.0 in
             record {
-              within = omega (arith, r.1, r.2);
-              above = omega (arith, r.2);
-              sent = ap (is_sent_item g) is ∙ r.4;
-              by = ap (producer_of_item g) is ∙ r.3;
+              within = omega (arith, its_parts.1, its_parts.2);
+              above = omega (arith, its_parts.2);
+              sent = ap (is_sent_item g) is ∙ its_parts.4;
+              by = ap (producer_of_item g) is ∙ its_parts.3;
             }
-        | inr m ↦ let r = a_message p x m in
-            let is = ap (item_at g) r.2 ∙ item_at-message g r.0 r.1 in
+        | inr message ↦ let its_parts = a_message p x message in
+            let is = ap (item_at g) its_parts.2 ∙ item_at-message g its_parts.0 its_parts.1 in
             record {
-              within = omega (arith, r.1, r.2);
-              above = omega (arith, r.2);
-              sent = ap (is_sent_item g) is ∙ r.4;
-              by = ap (producer_of_item g) is ∙ r.3;
+              within = omega (arith, its_parts.1, its_parts.2);
+              above = omega (arith, its_parts.2);
+              sent = ap (is_sent_item g) is ∙ its_parts.4;
+              by = ap (producer_of_item g) is ∙ its_parts.3;
             }
       ]
 
   -- Each item that goes over the bus is among what its producer sends.
   -- By the kind of the item: a start isn't sent, and a message or a broadcast is in its part of the list.
   to_queue : (x : ℕ) → x < item_count g → is_sent g x ≡ true → Contains (queue_of g (producer g x)) x
-  to_queue x l sent = elim (item_cases g x l) [
-    | inl c ↦ absurd (true≢false (sym sent ∙ ap (is_sent_item g) c.1))
-    | inr (inl c) ↦ subst (λ p. Contains (queue_of g p) x) (sym (ap (producer_of_item g) c.3))
-        (Contains-append_right (broadcasts_of g (condition_of g (source g c.0)))
-        (map (message_item g) (filter (is_message g) (outputs g (source g c.0)))) x
-        (subst (Contains (map (message_item g) (filter (is_message g) (outputs g (source g c.0))))) (sym c.2)
-        (Contains-map (message_item g) (filter (is_message g) (outputs g (source g c.0))) c.0
-        (Contains-filter (is_message g) (outputs g (source g c.0)) c.0 (sym (ap (is_sent_item g) c.3) ∙ sent)
-        (outputs-Contains g c.0 c.1)))))
-    | inr (inr c) ↦ subst (λ p. Contains (queue_of g p) x) (sym (ap (producer_of_item g) c.3))
-        (Contains-append_left (broadcasts_of g (condition_of g (process_of g c.0)))
-        (map (message_item g) (filter (is_message g) (outputs g (process_of g c.0)))) x
-        (subst (λ o. Contains (broadcasts_of g o) x) (sym (condition_of_process_of g c.0 c.1))
-        (subst (λ xs. Contains xs x) (sym (cond-true _ _ _ (sym (ap (is_sent_item g) c.3) ∙ sent)))
-        (subst (λ y. Contains (broadcast_item g c.0 ∷ []) y) (sym c.2) (Contains-first (broadcast_item g c.0) [])))))
+  to_queue x below sent = elim (item_cases g x below) [
+    | inl of_start ↦ absurd (true≢false (sym sent ∙ ap (is_sent_item g) of_start.1))
+    | inr (inl of_message) ↦ subst (λ p. Contains (queue_of g p) x) (sym (ap (producer_of_item g) of_message.3))
+        (Contains-append_right (broadcasts_of g (condition_of g (source g of_message.0)))
+        (map (message_item g) (filter (is_message g) (outputs g (source g of_message.0)))) x
+        (subst (Contains (map (message_item g) (filter (is_message g) (outputs g (source g of_message.0)))))
+        (sym of_message.2)
+        (Contains-map (message_item g) (filter (is_message g) (outputs g (source g of_message.0))) of_message.0
+        (Contains-filter (is_message g) (outputs g (source g of_message.0)) of_message.0
+        (sym (ap (is_sent_item g) of_message.3) ∙ sent)
+        (outputs-Contains g of_message.0 of_message.1)))))
+    | inr (inr of_broadcast) ↦ subst (λ p. Contains (queue_of g p) x) (sym (ap (producer_of_item g) of_broadcast.3))
+        (Contains-append_left (broadcasts_of g (condition_of g (process_of g of_broadcast.0)))
+        (map (message_item g) (filter (is_message g) (outputs g (process_of g of_broadcast.0)))) x
+        (subst (λ o. Contains (broadcasts_of g o) x) (sym (condition_of_process_of g of_broadcast.0 of_broadcast.1))
+        (subst (λ xs. Contains xs x) (sym (cond-true _ _ _ (sym (ap (is_sent_item g) of_broadcast.3) ∙ sent)))
+        (subst (λ y. Contains (broadcast_item g of_broadcast.0 ∷ []) y) (sym of_broadcast.2)
+        (Contains-first (broadcast_item g of_broadcast.0) [])))))
   ]
 
   -- each item that a process makes and that goes over the bus is among what it sends
   pub queue-Contains : (p x : ℕ) → x < item_count g → is_sent g x ≡ true → producer g x ≡ p → Contains (queue_of g p) x
-  queue-Contains p x l sent by = subst (λ q. Contains (queue_of g q) x) by (to_queue x l sent)
+  queue-Contains p x below sent by = subst (λ q. Contains (queue_of g q) x) by (to_queue x below sent)
 
   -- ---- in which order
 
@@ -187,13 +201,13 @@ module _ (g : Graph) where
   queue_rises p = Rises-append (λ a b. rank_at a < rank_at b) (broadcasts_of g (condition_of g p))
       (map (message_item g) (filter (is_message g) (outputs g p)))
       (broadcasts_rise (condition_of g p)) (messages_rise p)
-      (λ a b i j.
-      let r = a_broadcast p a (condition_of g p) refl i in
-      let m = a_message p b j in
+      (λ a b is_broadcast message_there.
+      let of_broadcast = a_broadcast p a (condition_of g p) refl is_broadcast in
+      let of_message = a_message p b message_there in
       omega (
         arith,
-        ap rank_at r.2,
-        ap rank_of_item (item_at-broadcast g r.0),
-        ap rank_at m.2,
-        ap rank_of_item (item_at-message g m.0 m.1),
+        ap rank_at of_broadcast.2,
+        ap rank_of_item (item_at-broadcast g of_broadcast.0),
+        ap rank_at of_message.2,
+        ap rank_of_item (item_at-message g of_message.0 of_message.1),
       ))

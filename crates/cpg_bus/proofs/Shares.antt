@@ -18,12 +18,12 @@ no_slot = record { node = 0; length = 0; bytes = 0 }
 -- The slots before it and itself are some of the slots of the round.
 pub is_share : (g : Graph) (node : ℕ) → IsWithinLimits g → HasSlot g node → IsShare (share_of g node)
 is_share g node within has =
-    let l = slot_place-lt g node has in
+    let place_inside = slot_place-lt g node has in
     record {
-      lasts = (within.slots (slot_place g node) _ l).lasts;
+      lasts = (within.slots (slot_place g node) _ place_inside).lasts;
       inside = omega (
         arith,
-        sum_by_more (λ (s : Slot). s.length) g.slots (slot_place g node) no_slot l,
+        sum_by_more (λ (s : Slot). s.length) g.slots (slot_place g node) no_slot place_inside,
         sum_by-take-le (λ (s : Slot). s.length) g.slots (slot_place g node + 1),
       );
       short = round-le g within;

@@ -51,7 +51,7 @@ fn print_row(rt: &HostRuntime, mark: &str, row: &[u8]) -> io::Result<()> {
     println!(rt)
 }
 
-/// Prints the first `rows` rows of bytes, 16 in each, behind a mark each, and says if there are more.
+/// Prints bytes in rows of 16, each row behind a mark. At most `rows` rows are printed; `..` stands for the others.
 fn print_rows(rt: &HostRuntime, mark: &str, bytes: &[u8], rows: usize) -> io::Result<()> {
     for row in bytes.chunks(16).take(rows) {
         print_row(rt, mark, row)?;

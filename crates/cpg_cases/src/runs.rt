@@ -5,7 +5,7 @@ use crate::stopped::Stopped;
 use cpg_app::run;
 use cpg_io::{MemoryShelf, MemorySink};
 
-/// What an item sets for a run.
+/// What the lines of a list of cases before a run set for it.
 #[derive(Clone, Copy)]
 pub struct RunSetting {
     /// How many bytes the output takes before it fails.
@@ -18,7 +18,7 @@ pub struct RunSetting {
     pub lines: usize,
 }
 
-/// What a run has if no item sets anything: room for what it writes, no call that fails, and all lines printed.
+/// What a run has if no line sets anything: room for what it writes, no call that fails, and all lines printed.
 pub const USUAL: RunSetting = RunSetting {
     out: 10_000_000,
     err: 1000,

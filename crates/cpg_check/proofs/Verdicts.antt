@@ -21,33 +21,34 @@ use Rattle.cpg_violation.specs.declared.heads.HeadPart.{HeadPart}
 
 -- a head `h` that differs from the graph's in the part `part` isn't the graph's
 pub other_head : (g : Graph) (h : Head) (part : HeadPart) → IsFirstDifference g h part → IsHeadFor g h → ⊥
-other_head g h HeadPart.Faults d k = d k.faults
-other_head g h HeadPart.Nodes d k = d.nodes k.nodes
-other_head g h HeadPart.Processes d k = d.processes k.processes
-other_head g h HeadPart.Edges d k = d.edges k.edges
+other_head g h HeadPart.Faults differs is_for = differs is_for.faults
+other_head g h HeadPart.Nodes differs is_for = differs.nodes is_for.nodes
+other_head g h HeadPart.Processes differs is_for = differs.processes is_for.processes
+other_head g h HeadPart.Edges differs is_for = differs.edges is_for.edges
 
--- node tables
+-- given: node tables
 module _ (g : Graph) (tables : List NodeTable) where
   -- if one of the hear rows that V10 asks for has item `x`, it has the columns that are due; by induction on `items`
   heard_due : (x : ℕ) (items : List ℕ) (cs : List Column) → row_columns (map (hear_row g tables) items) x ≡ Some cs →
       cs ≡ due_columns g tables x
-  heard_due x [] cs e = absurd (none-some cs e)
-  heard_due x (y ∷ items) cs e = elim (cases_Bool (y == x)) [
-    | inl here ↦ sym (same_Some (due_columns g tables y) cs (sym (cond-true (y == x) _ _ here) ∙ e))
+  heard_due x [] cs row_is = absurd (none-some cs row_is)
+  heard_due x (y ∷ items) cs row_is = elim (cases_Bool (y == x)) [
+    | inl here ↦ sym (same_Some (due_columns g tables y) cs (sym (cond-true (y == x) _ _ here) ∙ row_is))
         ∙ ap (due_columns g tables) (eqb-true y x here)
-    | inr there ↦ heard_due x items cs (sym (cond-false (y == x) _ _ there) ∙ e)
+    | inr there ↦ heard_due x items cs (sym (cond-false (y == x) _ _ there) ∙ row_is)
   ]
 
   -- in valid tables no node hears an item by other columns than are due: its hear rows are those that V10 asks for
   not_heard : IsValid g tables → (x place node : ℕ) → node < length tables → (o : Option (List Column)) →
       row_columns (table_at tables node).hears x ≡ o →
       IsSomeAnd o (λ cs. DifferFirstAt cs (due_columns g tables x) place) → ⊥
-  not_heard valid x place node l None e differ = differ
-  not_heard valid x place node l (Some cs) e differ =
-      let hears = valid.hears node (table_at tables node) (slice_get-get_or tables node empty_table l) in
-      differ.here (ap (λ ds. slice_get ds place) (heard_due x _ cs (sym (ap (λ rows. row_columns rows x) hears) ∙ e)))
+  not_heard valid x place node within None row_is differ = differ
+  not_heard valid x place node within (Some cs) row_is differ =
+      let hears = valid.hears node (table_at tables node) (slice_get-get_or tables node empty_table within) in
+      differ.here (ap (λ ds. slice_get ds place)
+      (heard_due x _ cs (sym (ap (λ rows. row_columns rows x) hears) ∙ row_is)))
 
-  -- so in valid tables there is no place at which item `x` is first heard otherwise than is due
+  -- in valid tables there is no place at which item `x` is first heard otherwise than is due
   first_hear : IsValid g tables → length tables ≡ length g.nodes → (x : ℕ) (o : Option ℕ) →
       IsSomeAnd o (IsFirstHear tables (length g.nodes) x (due_columns g tables x)) → ⊥
   first_hear valid count x None shown = shown

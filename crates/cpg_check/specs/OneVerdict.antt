@@ -13,12 +13,12 @@ use Rattle.cpg_check.specs.declared.verdict.Verdict.{Verdict}
 
 -- any two answers that the contract of a check allows are the same
 pub record HaveOneVerdict : Type 0 where
-  -- a head differs from a graph's first in one part
+  -- a head first differs from a graph's in one part
   pub parts : (g : Graph) (h : Head) (p q : HeadPart) → IsFirstDifference g h p → IsFirstDifference g h q → p ≡ q
   -- tables have one first violation, by each order of all processes
   pub faults : (g : Graph) (order : List ℕ) (tables : List NodeTable) (e f : Fault) → IsTopological g order →
       IsFirstFault g order tables e → IsFirstFault g order tables f → e ≡ f
-  -- so tables with one table for each node have one verdict
+  -- tables with one table for each node have one verdict
   pub verdicts : (g : Graph) (order : List ℕ) (t : Tables) (v w : Verdict) → IsTopological g order →
       length t.nodes ≡ length g.nodes →
       ShowsVerdict g order t v → ShowsVerdict g order t w → v ≡ w

@@ -13,15 +13,15 @@ module _ (g : Graph) (p start time : ℕ) (come : start ≤ time) where
   pub counts_here : (count : ℕ) → ((n : ℕ) → n < count → duration g p n ≤ time - start) →
       time - start < duration g p count
       → (n : ℕ) → n ≤ g.faults → nat_le (start + duration g p n) time ≡ nat_lt n count
-  counts_here count before here n below = elim (cases_lt n count) [
-    | inl l ↦ le-leb (start + duration g p n) time (omega (arith, before n l)) ∙ sym (lt-ltb n count l)
-    | inr l ↦ let r = duration_grows g p count n l in
-        lt-leb (start + duration g p n) time (omega (arith, r)) ∙ sym (le-ltb n count l)
+  counts_here count before here n at_most = elim (cases_lt n count) [
+    | inl less ↦ le-leb (start + duration g p n) time (omega (arith, before n less)) ∙ sym (lt-ltb n count less)
+    | inr not_less ↦ let no_shorter = duration_grows g p count n not_less in
+        lt-leb (start + duration g p n) time (omega (arith, no_shorter)) ∙ sym (le-ltb n count not_less)
   ]
 
   -- if the execution of process `p` lasts too long with none of the counts that there may be, it has ended by the time
   -- with each of them, `n`
   pub counts_all : ((n : ℕ) → n < g.faults + 1 → duration g p n ≤ time - start) → (n : ℕ) → n ≤ g.faults →
       nat_le (start + duration g p n) time ≡ nat_lt n (g.faults + 1)
-  counts_all before n l = le-leb (start + duration g p n) time (omega (arith, before n (omega arith)))
+  counts_all before n at_most = le-leb (start + duration g p n) time (omega (arith, before n (omega arith)))
       ∙ sym (lt-ltb n (g.faults + 1) (omega arith))

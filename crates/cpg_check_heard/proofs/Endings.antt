@@ -43,18 +43,20 @@ module _ (g : Graph) (tables : List NodeTable) (few : process_count g ≤ 128) (
       active g s.values (process_of_variable g (variable_of b)) ≡ true
       → side b (number_of s (variable_of b)) ≡ true → own_tells g tables node time b s ≡ true
   own_bound b known ended on within =
-      let p : ℕ = process_of_variable g (variable_of b) in
-      let l : p < process_count g = variable_within g (variable_of b) few known in
-      let d =
-      match_where g tables s law p (omega arith) rules (ap (item_active g s.values) (item_at-start g p l) ∙ on) in
-      -- column `d.0` matches, its execution has ended by the time, and the number is within the bound
-      let told : is_telling g (End p) time b s d.0 ≡ true = and_from _ _ d.2 (and_from _ _
-      (le-leb (d.0.time + duration g p (number_of s p)) time
-      (ended.ends d.0 (number_of s p) d.1 (count_within g few s law p l)))
-      (end_side g few s law b p known l refl ∙ within)) in
-      and_from _ _ (eq-eqb (node_of g p) node ended.home)
-      (ap (λ i. row_tells g (means_of_item g p i) time b (columns_of tables p) s) (item_at-start g p l)
-      ∙ list_any_true (is_telling g (End p) time b s) (columns_of tables p) d.0 d.1 told)
+      let process : ℕ = process_of_variable g (variable_of b) in
+      let below : process < process_count g = variable_within g (variable_of b) few known in
+      let ran =
+      match_where g tables s law process (omega arith) rules
+      (ap (item_active g s.values) (item_at-start g process below) ∙ on) in
+      -- column `ran.0` matches, its execution has ended by the time, and the number is within the bound
+      let told : is_telling g (End process) time b s ran.0 ≡ true = and_from _ _ ran.2 (and_from _ _
+      (le-leb (ran.0.time + duration g process (number_of s process)) time
+      (ended.ends ran.0 (number_of s process) ran.1 (count_within g few s law process below)))
+      (end_side g few s law b process known below refl ∙ within)) in
+      and_from _ _ (eq-eqb (node_of g process) node ended.home)
+      (ap (λ i. row_tells g (means_of_item g process i) time b (columns_of tables process) s)
+      (item_at-start g process below)
+      ∙ list_any_true (is_telling g (End process) time b s) (columns_of tables process) ran.0 ran.1 told)
 
   -- so the node has been told such a bound
   told_bound : (b : LiteralBound) → IsVariable g (variable_of b) → HasEnded g tables node (variable_of b) time →
@@ -88,7 +90,8 @@ ended_by g tables node v time last longest true is home most before =
     let come = leb-true (last + longest) time (sym is) in
     record {
       home = home;
-      ends = λ c n k l. let start =
+      ends = λ c n k at_most. let start =
           All-contains (λ (d : Column). d.time ≤ last) (columns_of tables (process_of_variable g v)) c before k in
-          let more = duration_grows g (process_of_variable g v) n g.faults l in omega (arith, come, start, more, most);
+          let more = duration_grows g (process_of_variable g v) n g.faults at_most in
+          omega (arith, come, start, more, most);
     }

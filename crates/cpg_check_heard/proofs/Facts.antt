@@ -58,16 +58,16 @@ any_ext p q (x ∷ xs) h = ap (λ t. t || list_any p xs) (h x) ∙ ap (λ t. q x
 -- two tests that agree on the elements of a list pass for some of them alike; by induction on `xs`
 any_within : {X : Type 0} (p q : X → Bool) (xs : List X) → ((x : X) → Contains xs x → p x ≡ q x) →
     list_any p xs ≡ list_any q xs
-any_within p q [] h = refl
-any_within p q (x ∷ xs) h = ap (λ t. t || list_any p xs) (h x (Contains-first x xs))
-    ∙ ap (λ t. q x || t) (any_within p q xs (λ y c. h y (Contains-rest x xs y c)))
+any_within p q [] each = refl
+any_within p q (x ∷ xs) each = ap (λ t. t || list_any p xs) (each x (Contains-first x xs))
+    ∙ ap (λ t. q x || t) (any_within p q xs (λ y there. each y (Contains-rest x xs y there)))
 
 -- if `f` passes for no number below `n` but perhaps for `one`, it passes for some of those that `t` keeps exactly if
 -- `t` keeps `one` and `f` passes for it
 any_one : (f t : ℕ → Bool) (n one : ℕ) → one < n → ((q : ℕ) → q < n → q ≢ one → f q ≡ false) →
     list_any f (filter t (numbers_below n)) ≡ (t one && f one)
-any_one f t n one l off = same_truth (list_any f (filter t (numbers_below n))) (t one && f one)
-    (λ e. let found = list_any_parts f (filter t (numbers_below n)) e in
+any_one f t n one less off = same_truth (list_any f (filter t (numbers_below n))) (t one && f one)
+    (λ holds. let found = list_any_parts f (filter t (numbers_below n)) holds in
     let parts = Contains-filter_parts t (numbers_below n) found.0 found.1 in
     let within = numbers-Contains n found.0 parts.0 in
     elim (cases_order found.0 one) [
@@ -77,7 +77,7 @@ any_one f t n one l off = same_truth (list_any f (filter t (numbers_below n))) (
     ])
     (λ e. let parts = and_parts (t one) (f one) e in
     list_any_true f (filter t (numbers_below n)) one
-    (Contains-filter t (numbers_below n) one parts.0 (Contains-numbers n one l)) parts.1)
+    (Contains-filter t (numbers_below n) one parts.0 (Contains-numbers n one less)) parts.1)
 
 -- the frame of item `i` tells the value of the condition that it carries, and no value if it carries none
 frame_carried : (s : Scenario) (i : Item) → frame_value s i ≡ value_fact s (carried i)
@@ -108,8 +108,9 @@ module _ (g : Graph) (tables : List NodeTable) (time : ℕ) (b : LiteralBound) (
   -- so the facts of a process's ends tell the bound exactly if the row of its start does
   start_row : (p : ℕ) → p < process_count g →
       list_any (tells b) (facts_of_end g tables s time p) ≡ item_tells g tables time b s p
-  start_row p l =
-      end_row p ∙ ap (λ i. row_tells g (means_of_item g p i) time b (columns_of tables p) s) (sym (item_at-start g p l))
+  start_row p within =
+      end_row p ∙ ap (λ i. row_tells g (means_of_item g p i) time b (columns_of tables p) s)
+      (sym (item_at-start g p within))
 
   -- if the bound isn't of the value of the condition, `o`, it isn't of a value that the condition has
   other_value : (o : Option ℕ) → ((c : ℕ) → o ≡ Some c → value_variable c ≢ variable_of b) →
@@ -120,43 +121,46 @@ module _ (g : Graph) (tables : List NodeTable) (time : ℕ) (b : LiteralBound) (
   -- if the bound is of another process, the count and the value of process `q` don't tell it
   other_end : process_count g ≤ 128 → (q : ℕ) → q < process_count g → q ≢ process_of_variable g (variable_of b) →
       list_any (tells b) (exactly q (number_of s q) ∷ value_fact s (condition_of g q)) ≡ false
-  other_end few q l n =
-      let v : ℕ = variable_of b in
+  other_end few q below other =
+      let variable : ℕ = variable_of b in
       ap (λ t. t || list_any (tells b) (value_fact s (condition_of g q))) (tells_exactly b q (number_of s q)
       ∙ ap (λ t. t && side b (number_of s q))
-      (ne_eqb q v (λ e. n (e ∙ sym (cond-true _ _ _ (lt-ltb v 128 (omega (arith, e, l, few))))))))
+      (ne_eqb q variable (λ same_variable. other
+      (same_variable ∙ sym (cond-true _ _ _ (lt-ltb variable 128 (omega (arith, same_variable, below, few))))))))
       ∙ value_side s b (condition_of g q)
-      ∙ ap (λ t. t && side b (number_of s v)) (other_value (condition_of g q)
-      (λ c has e. let back : v - 128 ≡ c = omega (arith, e) in
-      n (sym (cond-false _ _ _ (le-ltb v 128 (omega (arith, e))) ∙ ap (process_of g) back
+      ∙ ap (λ t. t && side b (number_of s variable)) (other_value (condition_of g q)
+      (λ c has same_variable. let back : variable - 128 ≡ c = omega (arith, same_variable) in
+      other (sym (cond-false _ _ _ (le-ltb variable 128 (omega (arith, same_variable))) ∙ ap (process_of g) back
       ∙ process_of_condition_of g q c has))))
 
   -- so the ends of any other process `q` don't tell the bound
   other_row : process_count g ≤ 128 → (q : ℕ) → q < process_count g → q ≢ process_of_variable g (variable_of b) →
       list_any (tells b) (facts_of_end g tables s time q) ≡ false
-  other_row few q l n = end_row q ∙ list_any_false (is_telling g (End q) time b s) (columns_of tables q)
+  other_row few q within differ = end_row q ∙ list_any_false (is_telling g (End q) time b s) (columns_of tables q)
       (λ c _. and_right (matches c.cube s) (column_tells g (End q) time b s c)
       (and_right (nat_le (c.time + duration g q (number_of s q)) time)
-      (list_any (tells b) (exactly q (number_of s q) ∷ value_fact s (condition_of g q))) (other_end few q l n)))
+      (list_any (tells b) (exactly q (number_of s q) ∷ value_fact s (condition_of g q)))
+      (other_end few q within differ)))
 
   -- ---- what a node hears
 
   -- an item that a node hears comes by a frame, a slot later, and carries its condition's value
   framed : (x node : ℕ) → is_heard_by g node (item_at g x) ≡ true →
       means_of g x ≡ Frame (slot_length g (home g x)) (carried (item_at g x))
-  framed x node h = go (item_at g x) h
+  framed x node holds = go (item_at g x) holds
     where
       -- by cases of the item: no node hears a start
       go : (i : Item) → is_heard_by g node i ≡ true → means_of_item g x i ≡ Frame (slot_length g (home g x)) (carried i)
-      go (Start p) e = absurd (true≢false (sym e))
-      go (Message e) h = refl
-      go (Broadcast c) h = refl
+      go (Start p) is_true = absurd (true≢false (sym is_true))
+      go (Message e) holds = refl
+      go (Broadcast c) holds = refl
 
   -- the facts of an item's frames tell the bound exactly if its row does: they are made of the columns that match, of
   -- each only if its frame has come
   frame_row : (x node : ℕ) → is_heard_by g node (item_at g x) ≡ true →
       list_any (tells b) (facts_of_frame g tables s time x) ≡ item_tells g tables time b s x
-  frame_row x node h = any_flat_map (tells b) (λ (c : Column). cond (nat_le (c.time + slot_length g (home g x)) time)
+  frame_row x node holds = any_flat_map (tells b)
+      (λ (c : Column). cond (nat_le (c.time + slot_length g (home g x)) time)
       (c.cube ++ frame_value s (item_at g x)) []) (matching tables s x)
       ∙ any_filter (λ (c : Column). list_any (tells b) (cond (nat_le (c.time + slot_length g (home g x)) time)
       (c.cube ++ frame_value s (item_at g x)) [])) (λ (c : Column). matches c.cube s)
@@ -168,7 +172,7 @@ module _ (g : Graph) (tables : List NodeTable) (time : ℕ) (b : LiteralBound) (
       (any_cond (tells b) (nat_le (c.time + slot_length g (home g x)) time) (c.cube ++ frame_value s (item_at g x))
       ∙ ap (λ v. nat_le (c.time + slot_length g (home g x)) time && list_any (tells b) (c.cube ++ v))
       (frame_carried s (item_at g x))))
-      ∙ ap (λ t. row_tells g t time b (columns_of tables x) s) (sym (framed x node h))
+      ∙ ap (λ t. row_tells g t time b (columns_of tables x) s) (sym (framed x node holds))
 
   -- ---- altogether
 
@@ -185,19 +189,19 @@ module _ (g : Graph) (tables : List NodeTable) (time : ℕ) (b : LiteralBound) (
       ∙ ap (λ t. t || list_any (tells b) (flat_map (facts_of_frame g tables s time) (heard_by g node)))
       (any_flat_map (tells b) (facts_of_end g tables s time) own
       ∙ any_one (λ p. list_any (tells b) (facts_of_end g tables s time p)) (λ p. node_of g p == node)
-      (process_count g) one within (λ q l n. other_row few q l n)
+      (process_count g) one within (λ q inside differ. other_row few q inside differ)
       ∙ ap (λ t. (node_of g one == node) && t) (start_row one within))
       ∙ ap (λ t. own_tells g tables node time b s || t)
       (any_flat_map (tells b) (facts_of_frame g tables s time) (heard_by g node)
       ∙ any_within (λ x. list_any (tells b) (facts_of_frame g tables s time x)) (item_tells g tables time b s)
       (heard_by g node)
-      (λ x c. frame_row x node
-      (Contains-filter_parts (λ x. is_heard_by g node (item_at g x)) (numbers_below (item_count g)) x c).1))
+      (λ x there. frame_row x node
+      (Contains-filter_parts (λ x. is_heard_by g node (item_at g x)) (numbers_below (item_count g)) x there).1))
 
   -- the row of an item that a node hears can tell each bound
   pub heard_can : (x node : ℕ) → is_heard_by g node (item_at g x) ≡ true → CanTell g b (means_of g x)
-  heard_can x node h = subst (CanTell g b) (sym (framed x node h)) tt
+  heard_can x node holds = subst (CanTell g b) (sym (framed x node holds)) tt
 
   -- the row of a process can tell a bound of the process's own variables
   pub own_can : (p : ℕ) → p < process_count g → process_of_variable g (variable_of b) ≡ p → CanTell g b (means_of g p)
-  own_can p l e = subst (λ i. CanTell g b (means_of_item g p i)) (sym (item_at-start g p l)) (l, e)
+  own_can p within is = subst (λ i. CanTell g b (means_of_item g p i)) (sym (item_at-start g p within)) (within, is)

@@ -40,16 +40,16 @@ frame_told g tables time b s few within node x among told =
 
 -- a test passes at one of `ys` exactly if it does at one of the first `i` elements of `xs` (`d` is only the default of
 -- `get_or`)
-module _ {X : Type 0} (test : X → Bool) (xs : List X) (i : ℕ) (d : X) (l : i < length xs) (ys : List X)
+module _ {X : Type 0} (test : X → Bool) (xs : List X) (i : ℕ) (d : X) (within : i < length xs) (ys : List X)
     (is : list_any test ys ≡ list_any test (take i xs)) where
   -- with the next element added to `ys`, this is so for one element more
   pub kept_more : (more : List X) → more ≡ ys ++ get_or xs i d ∷ [] →
       list_any test more ≡ list_any test (take (i + 1) xs)
-  kept_more more e = ap (list_any test) e ∙ list_any-append test ys (get_or xs i d ∷ [])
+  kept_more more same = ap (list_any test) same ∙ list_any-append test ys (get_or xs i d ∷ [])
       ∙ ap (λ t. list_any test ys || t) (or-false (test (get_or xs i d))) ∙ ap (λ t. t || test (get_or xs i d)) is ∙
-      sym (list_any_more test xs i d l)
+      sym (list_any_more test xs i d within)
 
   -- if the next element fails the test, this is so for one element more without it in `ys`
   pub left_more : test (get_or xs i d) ≡ false → list_any test ys ≡ list_any test (take (i + 1) xs)
   left_more off = is ∙ sym (or-false (list_any test (take i xs))) ∙ ap (λ t. list_any test (take i xs) || t) (sym off)
-      ∙ sym (list_any_more test xs i d l)
+      ∙ sym (list_any_more test xs i d within)

@@ -36,8 +36,8 @@ use Rattle.cpg_check_heard.proofs.Sides.{side, range_holds, end_side, value_side
 -- if tests `p` and `q` agree in the graph's scenarios, the part `o` for `p` is the part for `q`
 pub part_same : (g : Graph) (p q : Scenario → Bool) (o : Option (List Literal)) →
     ((s : Scenario) → IsScenario g s → p s ≡ q s) → IsPart g p o → IsPart g q o
-part_same g p q None h f = λ s i. sym (h s i) ∙ f s i
-part_same g p q (Some cube) h f = λ s i. f s i ∙ h s i
+part_same g p q None h is_part = λ s i. sym (h s i) ∙ is_part s i
+part_same g p q (Some cube) h is_part = λ s i. is_part s i ∙ h s i
 
 -- the cube `base` narrowed by literal `l`, if that is `o`, is the part in which the cube matches and the literal holds;
 -- `None` if there is no scenario of that kind
@@ -53,8 +53,8 @@ part_with g l base (Some cube) some none = λ s i. some s
 pub known_with : (g : Graph) (l : Literal) (base : List Literal) (o : Option (List Literal)) → o ≡ with_literal l base →
     IsVariable g l.variable → IsKnown g base →
     IfSome o (IsKnown g)
-known_with g l base None e v k = tt
-known_with g l base (Some cube) e v k = subst (IsKnown g) (with-is l base cube (sym e)) (known-narrowed g l base v k)
+known_with g l base None is v k = tt
+known_with g l base (Some cube) is v k = subst (IsKnown g) (with-is l base cube (sym is)) (known-narrowed g l base v k)
 
 -- the range of bound `b` is a literal on the bound's variable
 pub range_variable : (k : ℕ) (b : LiteralBound) → (range_of k b).variable ≡ variable_of b
@@ -72,9 +72,9 @@ turned false false m = sym (and_right m false refl)
 
 -- if of three tests two, `h` and `m`, don't both pass, the three don't all pass
 off_both : (m h r : Bool) → (h && m) ≡ false → (m && (h && r)) ≡ false
-off_both true true r e = absurd (true≢false e)
-off_both true false r e = refl
-off_both false h r e = refl
+off_both true true r fails = absurd (true≢false fails)
+off_both true false r fails = refl
+off_both false h r fails = refl
 
 -- column `c` of process `p`, whose execution has ended by the time exactly with fault counts below `counts` (`come`);
 -- and a bound of one of the process's variables
@@ -84,15 +84,15 @@ module _ (g : Graph) (few : process_count g ≤ 128) (p : ℕ) (c : Column) (tim
   -- the end of the column tells the bound exactly if the count is below `counts` and the variable is within the bound
   end_is : (s : Scenario) → IsScenario g s →
       column_tells g (End p) time b s c ≡ (nat_lt (number_of s p) counts && holds s (range_of g.faults b))
-  end_is s i = ap (λ t. t && list_any (tells b) (exactly p (number_of s p) ∷ value_fact s (condition_of g p)))
-      (come (number_of s p) (count_within g few s i p can.0))
+  end_is s lawful = ap (λ t. t && list_any (tells b) (exactly p (number_of s p) ∷ value_fact s (condition_of g p)))
+      (come (number_of s p) (count_within g few s lawful p can.0))
       ∙ ap (λ t. nat_lt (number_of s p) counts && t)
-      (end_side g few s i b p known can.0 can.1 ∙ sym (range_holds g few s i b known))
+      (end_side g few s lawful b p known can.0 can.1 ∙ sym (range_holds g few s lawful b known))
 
   -- if there are no such counts, it never tells the bound
   pub end_none : counts ≡ 0 → (s : Scenario) → IsScenario g s → is_telling g (End p) time b s c ≡ false
-  end_none e s i = and_right (matches c.cube s) (column_tells g (End p) time b s c)
-      (end_is s i ∙ ap (λ n. nat_lt (number_of s p) n && holds s (range_of g.faults b)) e
+  end_none is s lawful = and_right (matches c.cube s) (column_tells g (End p) time b s c)
+      (end_is s lawful ∙ ap (λ n. nat_lt (number_of s p) n && holds s (range_of g.faults b)) is
       ∙ ap (λ t. t && holds s (range_of g.faults b)) (le-ltb (number_of s p) 0 (omega arith)))
 
   -- there are such counts
@@ -107,7 +107,7 @@ module _ (g : Graph) (few : process_count g ≤ 128) (p : ℕ) (c : Column) (tim
         (holds s (record { variable = p; low = 0; high = counts - 1 }) && matches c.cube s) ≡ false) → (s : Scenario) →
         IsScenario g s →
         is_telling g (End p) time b s c ≡ false
-    end_apart off s i = ap (λ t. matches c.cube s && t) (end_is s i)
+    end_apart off s lawful = ap (λ t. matches c.cube s && t) (end_is s lawful)
         ∙ off_both (matches c.cube s) (nat_lt (number_of s p) counts) (holds s (range_of g.faults b))
         (ap (λ t. t && matches c.cube s) (sym (come_is s)) ∙ off s)
 
@@ -118,11 +118,11 @@ module _ (g : Graph) (few : process_count g ≤ 128) (p : ℕ) (c : Column) (tim
         matches part s ≡ (holds s (record { variable = p; low = 0; high = counts - 1 }) && matches c.cube s))
         → IsPart g (λ s. holds s (range_of g.faults b) && matches part s) o →
         IsPart g (λ s. is_telling g (End p) time b s c) o
-    end_told part o is f =
+    end_told part o is is_part =
         part_same g (λ s. holds s (range_of g.faults b) && matches part s) (λ s. is_telling g (End p) time b s c) o
-        (λ s i. ap (λ t. holds s (range_of g.faults b) && t) (is s ∙ ap (λ h. h && matches c.cube s) (come_is s))
+        (λ s lawful. ap (λ t. holds s (range_of g.faults b) && t) (is s ∙ ap (λ h. h && matches c.cube s) (come_is s))
         ∙ turned (nat_lt (number_of s p) counts) (holds s (range_of g.faults b)) (matches c.cube s)
-        ∙ ap (λ t. matches c.cube s && t) (sym (end_is s i))) f
+        ∙ ap (λ t. matches c.cube s && t) (sym (end_is s lawful))) is_part
 
 -- ---- of frames
 
@@ -133,21 +133,21 @@ module _ (g : Graph) (few : process_count g ≤ 128) (delay : ℕ) (o : Option �
   -- carries is that of the bound's variable and within the bound
   frame_is : (s : Scenario) → nat_le (c.time + delay) time ≡ true → column_tells g (Frame delay o) time b s c ≡
       (list_any (tells b) c.cube || (is_value o (variable_of b) && side b (number_of s (variable_of b))))
-  frame_is s e = ap (λ t. t && list_any (tells b) (c.cube ++ value_fact s o)) e
+  frame_is s holds = ap (λ t. t && list_any (tells b) (c.cube ++ value_fact s o)) holds
       ∙ list_any-append (tells b) c.cube (value_fact s o) ∙ ap (λ t. list_any (tells b) c.cube || t) (value_side s b o)
 
   -- a frame that comes after the time tells nothing
   pub frame_late : nat_le (c.time + delay) time ≡ false → (s : Scenario) → IsScenario g s →
       is_telling g (Frame delay o) time b s c ≡ false
-  frame_late e s i = and_right (matches c.cube s) (column_tells g (Frame delay o) time b s c)
-      (ap (λ t. t && list_any (tells b) (c.cube ++ value_fact s o)) e)
+  frame_late fails s lawful = and_right (matches c.cube s) (column_tells g (Frame delay o) time b s c)
+      (ap (λ t. t && list_any (tells b) (c.cube ++ value_fact s o)) fails)
 
   -- a frame that has come by the time
   module _ (come : nat_le (c.time + delay) time ≡ true) where
     -- if a literal of the column tells the bound, the whole cube is the part in which the frame does
     pub frame_whole : list_any (tells b) c.cube ≡ true → (cube : List Literal) → cube ≡ c.cube →
         IsPart g (λ s. is_telling g (Frame delay o) time b s c) (Some cube)
-    frame_whole told cube e = λ s i. ap (λ (d : List Literal). matches d s) e ∙ with_true (matches c.cube s) true refl
+    frame_whole told cube is = λ s i. ap (λ (d : List Literal). matches d s) is ∙ with_true (matches c.cube s) true refl
         ∙ ap (λ t. matches c.cube s && t) (sym (frame_is s come
         ∙ ap (λ t. t || (is_value o (variable_of b) && side b (number_of s (variable_of b)))) told))
 
@@ -155,7 +155,7 @@ module _ (g : Graph) (few : process_count g ≤ 128) (delay : ℕ) (o : Option �
     pub frame_none : list_any (tells b) c.cube ≡ false → is_value o (variable_of b) ≡ false → (s : Scenario) →
         IsScenario g s →
         is_telling g (Frame delay o) time b s c ≡ false
-    frame_none off none s i = and_right (matches c.cube s) (column_tells g (Frame delay o) time b s c)
+    frame_none off none s lawful = and_right (matches c.cube s) (column_tells g (Frame delay o) time b s c)
         (frame_is s come ∙ ap (λ t. t || (is_value o (variable_of b) && side b (number_of s (variable_of b)))) off
         ∙ ap (λ t. t && side b (number_of s (variable_of b))) none)
 
@@ -165,13 +165,13 @@ module _ (g : Graph) (few : process_count g ≤ 128) (delay : ℕ) (o : Option �
         (r : Option (List Literal)) →
         IsPart g (λ s. holds s (range_of g.faults b) && matches c.cube s) r
         → IsPart g (λ s. is_telling g (Frame delay o) time b s c) r
-    frame_value off value r f = part_same g (λ s. holds s (range_of g.faults b) && matches c.cube s)
+    frame_value off value r is_part = part_same g (λ s. holds s (range_of g.faults b) && matches c.cube s)
         (λ s. is_telling g (Frame delay o) time b s c) r
         (λ s i. ap (λ t. t && matches c.cube s) (range_holds g few s i b known)
         ∙ and_comm (side b (number_of s (variable_of b))) (matches c.cube s)
         ∙ ap (λ t. matches c.cube s && t) (sym (frame_is s come
         ∙ ap (λ t. t || (is_value o (variable_of b) && side b (number_of s (variable_of b)))) off ∙
-        ap (λ t. t && side b (number_of s (variable_of b))) value))) f
+        ap (λ t. t && side b (number_of s (variable_of b))) value))) is_part
 
 -- ---- what is told by a list of parts
 
@@ -181,22 +181,23 @@ module _ (g : Graph) (test : Scenario → Bool) where
   pub told_add : (told : List (List Literal)) (o : Option (List Literal)) → IsPart g test o → (s : Scenario) →
       IsScenario g s
       → list_any (λ b. matches b s) (told ++ option_to_list o) ≡ (list_any (λ b. matches b s) told || test s)
-  told_add told None f s i =
-      list_any-append (λ b. matches b s) told [] ∙ ap (λ t. list_any (λ b. matches b s) told || t) (sym (f s i))
-  told_add told (Some cube) f s i = list_any-append (λ b. matches b s) told (cube ∷ [])
-      ∙ ap (λ t. list_any (λ b. matches b s) told || t) (or-false (matches cube s) ∙ f s i)
+  told_add told None is_part s lawful =
+      list_any-append (λ b. matches b s) told []
+      ∙ ap (λ t. list_any (λ b. matches b s) told || t) (sym (is_part s lawful))
+  told_add told (Some cube) is_part s lawful = list_any-append (λ b. matches b s) told (cube ∷ [])
+      ∙ ap (λ t. list_any (λ b. matches b s) told || t) (or-false (matches cube s) ∙ is_part s lawful)
 
 -- if the cubes `told` and the part `o` that is added are on variables of the graph, so are all
 pub known_add : (g : Graph) (told : List (List Literal)) (o : Option (List Literal)) → All (IsKnown g) told →
     IfSome o (IsKnown g) →
     All (IsKnown g) (told ++ option_to_list o)
-known_add g told None h k = All-append (IsKnown g) told [] h (λ j d l. absurd (omega arith))
-known_add g told (Some cube) h k = All-append (IsKnown g) told (cube ∷ []) h (λ j d l. one j d l)
+known_add g told None all if_some = All-append (IsKnown g) told [] all (λ j d l. absurd (omega arith))
+known_add g told (Some cube) all if_some = All-append (IsKnown g) told (cube ∷ []) all (λ j d less. one j d less)
   where
     -- the list that is added has this cube alone, at every place `j` of it
     one : (j : ℕ) (d : List Literal) → j < 1 → IsKnown g (get_or (cube ∷ []) j d)
-    one zero d l = k
-    one (suc j) d l = absurd (omega arith)
+    one zero d less = if_some
+    one (suc j) d less = absurd (omega arith)
 
 -- the step of a loop over `places`, each of which may pass a test: `r` says whether `a` holds or one of the first `i`
 -- has passed, `n` whether `r` does or the next one has; so `n` says it of one place more
@@ -204,9 +205,9 @@ pub row_more : {X : Type 0} (test : X → Bool) (places : List X) (i : ℕ) (d :
     r ≡ (a || list_any test (take i places)) →
     n ≡ (r || test (get_or places i d)) →
     n ≡ (a || list_any test (take (i + 1) places))
-row_more test places i d h a r n e f = f ∙ ap (λ t. t || test (get_or places i d)) e
+row_more test places i d within a r n e f = f ∙ ap (λ t. t || test (get_or places i d)) e
     ∙ or_assoc a (list_any test (take i places)) (test (get_or places i d)) ∙
-    ap (λ t. a || t) (sym (list_any_more test places i d h))
+    ap (λ t. a || t) (sym (list_any_more test places i d within))
 
 -- if the place of each column that matches in the scenario is among `places`, these tell a bound exactly if the row
 -- does

@@ -33,12 +33,12 @@ tells_exactly (High v most) w n = refl
 
 -- a variable `v` of a fault count isn't that of a condition's value, `o`
 is_value_off : (o : Option ℕ) (v : ℕ) → v < 128 → is_value o v ≡ false
-is_value_off None v h = refl
-is_value_off (Some c) v h = ne_eqb (value_variable c) v (λ e. omega (arith, e, h))
+is_value_off None v less = refl
+is_value_off (Some c) v less = ne_eqb (value_variable c) v (λ e. omega (arith, e, less))
 
 -- `n` is in the range from 0 to `c - 1` exactly if it is less than `c`
 pub come_holds : (n c : ℕ) → 0 < c → (nat_le 0 n && nat_le n (c - 1)) ≡ nat_lt n c
-come_holds n c h = elim (cases_lt n c) [
+come_holds n c less = elim (cases_lt n c) [
   | inl l ↦ ap (λ b. b && nat_le n (c - 1)) (le-leb 0 n (omega arith)) ∙ le-leb n (c - 1) (omega arith)
       ∙ sym (lt-ltb n c l)
   | inr l ↦ ap (λ b. b && nat_le n (c - 1)) (le-leb 0 n (omega arith)) ∙ lt-leb n (c - 1) (omega arith)
@@ -74,20 +74,20 @@ variable_within g v few known =
     ]
 
 -- a scenario of a graph
-module _ (g : Graph) (few : process_count g ≤ 128) (s : Scenario) (i : IsScenario g s) where
+module _ (g : Graph) (few : process_count g ≤ 128) (s : Scenario) (lawful : IsScenario g s) where
   -- the range of a bound holds exactly if the variable's number is within the bound
   pub range_holds : (b : LiteralBound) → IsVariable g (variable_of b) →
       holds s (range_of g.faults b) ≡ side b (number_of s (variable_of b))
   range_holds (Low v least) known =
       sym (with_true (nat_le least (number_of s v)) (nat_le (number_of s v) (top g.faults v))
-      (le-leb (number_of s v) (top g.faults v) (number_within g few s i v known)))
+      (le-leb (number_of s v) (top g.faults v) (number_within g few s lawful v known)))
   range_holds (High v most) known = ap (λ b. b && nat_le (number_of s v) most) (le-leb 0 (number_of s v) (omega arith))
 
   -- the fault count of a process is at most the faults of the graph
   pub count_within : (p : ℕ) → p < process_count g → number_of s p ≤ g.faults
-  count_within p l = let a = number_within g few s i p (inl l) in
-      let t = top_of_count g.faults p (omega arith) in
-      omega (arith, a, t)
+  count_within p below = let at_most = number_within g few s lawful p (inl below) in
+      let top_is = top_of_count g.faults p (omega arith) in
+      omega (arith, at_most, top_is)
 
   -- the count and the value of process `p` tell bound `b` of one of its variables exactly if the variable's number is
   -- within the bound; by cases of whether the bound is of the count or of the value
@@ -95,7 +95,7 @@ module _ (g : Graph) (few : process_count g ≤ 128) (s : Scenario) (i : IsScena
       process_of_variable g (variable_of b) ≡ p
       → list_any (tells b) (exactly p (number_of s p) ∷ value_fact s (condition_of g p))
       ≡ side b (number_of s (variable_of b))
-  end_side b p known l is =
+  end_side b p known within is =
       ap (λ t. t || list_any (tells b) (value_fact s (condition_of g p))) (tells_exactly b p (number_of s p))
       ∙ ap (λ t. ((p == variable_of b) && side b (number_of s p)) || t) (value_side s b (condition_of g p))
       ∙ elim (variable_parts g (variable_of b) few known) as
@@ -103,7 +103,7 @@ module _ (g : Graph) (few : process_count g ≤ 128) (s : Scenario) (i : IsScena
       || (is_value (condition_of g p) (variable_of b) && side b (number_of s (variable_of b))))
       ≡ side b (number_of s (variable_of b))) [
         -- the bound is of the count, so the value doesn't tell it
-        | inl m ↦
+        | inl of_count ↦
             let same : p ≡ variable_of b = sym is ∙ cond-true _ _ _ (lt-ltb (variable_of b) 128 (omega arith)) in
             ap (λ t. (t && side b (number_of s p)) || (is_value (condition_of g p) (variable_of b)
             && side b (number_of s (variable_of b)))) (eq-eqb p (variable_of b) same)
@@ -111,14 +111,16 @@ module _ (g : Graph) (few : process_count g ≤ 128) (s : Scenario) (i : IsScena
             (is_value_off (condition_of g p) (variable_of b) (omega arith))
             ∙ or-false (side b (number_of s p)) ∙ ap (λ v. side b (number_of s v)) same
         -- the bound is of the value, so the count doesn't tell it
-        | inr m ↦
-            let c : ℕ = variable_of b - 128 in
-            let at : process_of g c ≡ p = sym (cond-false _ _ _ (le-ltb (variable_of b) 128 m.0)) ∙ is in
-            let has : condition_of g p ≡ Some c = ap (condition_of g) (sym at) ∙ condition_of_process_of g c m.1 in
-            let here : value_variable c ≡ variable_of b = omega (arith, m.0) in
+        | inr of_value ↦
+            let condition : ℕ = variable_of b - 128 in
+            let at : process_of g condition ≡ p = sym (cond-false _ _ _ (le-ltb (variable_of b) 128 of_value.0)) ∙ is in
+            let has : condition_of g p ≡ Some condition = ap (condition_of g) (sym at)
+            ∙ condition_of_process_of g condition of_value.1 in
+            let here : value_variable condition ≡ variable_of b = omega (arith, of_value.0) in
             ap (λ t. (t && side b (number_of s p))
             || (is_value (condition_of g p) (variable_of b) && side b (number_of s (variable_of b))))
-            (ne_eqb p (variable_of b) (λ e. omega (arith, e, m.0, l, few)))
+            (ne_eqb p (variable_of b) (λ same_variable. omega (arith, same_variable, of_value.0, within, few)))
             ∙ ap (λ o. is_value o (variable_of b) && side b (number_of s (variable_of b))) has
-            ∙ ap (λ t. t && side b (number_of s (variable_of b))) (eq-eqb (value_variable c) (variable_of b) here)
+            ∙ ap (λ t. t && side b (number_of s (variable_of b)))
+            (eq-eqb (value_variable condition) (variable_of b) here)
       ]

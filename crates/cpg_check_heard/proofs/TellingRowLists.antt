@@ -11,9 +11,9 @@ use Rattle.cpg_check_heard.specs.TellingRows.{IsTellingRow, AreTellingRows}
 
 -- place `i` of list `xs` has the same element in `xs` joined with `ys`
 get_before : {X : Type 0} (xs ys : List X) (i : ℕ) → i < length xs → slice_get (xs ++ ys) i ≡ slice_get xs i
-get_before [] ys i h = absurd (omega arith)
-get_before (x ∷ xs) ys zero h = refl
-get_before (x ∷ xs) ys (suc i) h = get_before xs ys i (omega arith)
+get_before [] ys i within = absurd (omega arith)
+get_before (x ∷ xs) ys zero within = refl
+get_before (x ∷ xs) ys (suc i) within = get_before xs ys i (omega arith)
 
 -- the element that is added comes after the others; by induction on `xs`
 get_last : {X : Type 0} (xs : List X) (y : X) → slice_get (xs ++ y ∷ []) (length xs) ≡ Some y
@@ -34,14 +34,15 @@ module _ (g : Graph) (tables : List NodeTable) where
   rows_push items ts t are is = record {
     count = omega (arith, are.count, length-append ts (t ∷ []));
     each = λ x u e. elim (cases_lt x (length ts)) [
-      | inl l ↦ are.each x u (sym (get_before ts (t ∷ []) x l) ∙ e)
-      | inr l ↦
+      | inl earlier ↦ are.each x u (sym (get_before ts (t ∷ []) x earlier) ∙ e)
+      | inr not_earlier ↦
           let within = slice_get_within (ts ++ t ∷ []) x u e in
           let last : length ts ≡ x = omega (arith, within, length-append ts (t ∷ [])) in
           let same : t ≡ u =
           same_Some t u (sym (get_last ts t) ∙ subst (λ i. slice_get (ts ++ t ∷ []) i ≡ Some u) (sym last) e) in
           subst (IsTellingRow g tables x) same
-          (subst (λ y. IsTellingRow g tables y t) (let n : items ≡ x = omega (arith, are.count, last) in n) is)
+          (subst (λ y. IsTellingRow g tables y t)
+          (let last_item : items ≡ x = omega (arith, are.count, last) in last_item) is)
     ];
   }
 
@@ -49,13 +50,13 @@ module _ (g : Graph) (tables : List NodeTable) where
   pub rows_more : (items : ℕ) (ts more : List TellingRow) (t : TellingRow) → more ≡ ts ++ t ∷ [] →
       AreTellingRows g tables items ts → IsTellingRow g tables items t →
       AreTellingRows g tables (items + 1) more
-  rows_more items ts more t e are is =
-      subst (AreTellingRows g tables (items + 1)) (sym e) (rows_push items ts t are is)
+  rows_more items ts more t same are is =
+      subst (AreTellingRows g tables (items + 1)) (sym same) (rows_push items ts t are is)
 
   -- the row `t` that is looked up among `ts` at the number of item `x` is the item's
   pub row_at : (items : ℕ) (ts : List TellingRow) (x : ℕ) (t : TellingRow) → AreTellingRows g tables items ts →
       x < items →
       t ≡ get_or ts x t →
       IsTellingRow g tables x t
-  row_at items ts x t are l is =
-      are.each x t (slice_get-get_or ts x t (omega (arith, l, are.count)) ∙ ap Some (sym is))
+  row_at items ts x t are less is =
+      are.each x t (slice_get-get_or ts x t (omega (arith, less, are.count)) ∙ ap Some (sym is))

@@ -31,9 +31,10 @@ module _ (g : Graph) (order : List ℕ) (cube : List Literal) (told : List (List
     pub untold_first : (free : Bool) (o : Option Scenario) → free ≡ false →
         ((s : Scenario) → IsScenario g s → matches cube s ≡ true → list_any (λ b. matches b s) told ≡ facts s)
         → IsFirst g order (is_left told cube) o → IsFirst g order (λ s. matches cube s && not (free || facts s)) o
-    untold_first free o e is f = first_same g order (is_left told cube) (λ s. matches cube s && not (free || facts s)) o
+    untold_first free o fails is is_first = first_same g order (is_left told cube) (λ s. matches cube s
+        && not (free || facts s)) o
         (λ s i. same_where (matches cube s) (not (list_any (λ b. matches b s) told)) (not (free || facts s))
-        (λ m. ap not (is s i m ∙ sym (ap (λ t. t || facts s) e)))) f
+        (λ m. ap not (is s i m ∙ sym (ap (λ t. t || facts s) fails)))) is_first
 
 -- a list of cubes that is empty at first, in a scenario
 module _ (start : List (List Literal)) (s : Scenario) where
@@ -46,7 +47,7 @@ module _ (start : List (List Literal)) (s : Scenario) where
 
 -- what the heard rows tell (`heard`) is told (`all`)
 pub told_heard : (own heard all : Bool) → all ≡ (own || heard) → heard ≡ true → all ≡ true
-told_heard own heard all is t = is ∙ or_right own heard t
+told_heard own heard all is holds = is ∙ or_right own heard holds
 
 -- if a bound is told (`facts`) wherever the cube matches, there is no scenario of the cube in which it isn't; it
 -- needn't be told if it is `free`
@@ -54,13 +55,13 @@ pub untold_nowhere : (g : Graph) (cube : List Literal) (facts : Scenario → Boo
     ((s : Scenario) → IsScenario g s → matches cube s ≡ true → facts s ≡ true) →
     (s : Scenario) →
     IsScenario g s → (matches cube s && not (free || facts s)) ≡ false
-untold_nowhere g cube facts free h s i =
-    off_where (matches cube s) (not (free || facts s)) (λ m. ap not (or_right free (facts s) (h s i m)))
+untold_nowhere g cube facts free h s lawful =
+    off_where (matches cube s) (not (free || facts s)) (λ m. ap not (or_right free (facts s) (h s lawful m)))
 
 -- what a node's own ends tell (`own`) is told (`all`)
 pub own_told : (free first own heard all : Bool) → first ≡ own → all ≡ (own || heard) → first ≡ true →
     (free || all) ≡ true
-own_told free first own heard all f is t = or_right free all (is ∙ ap (λ x. x || heard) (sym f ∙ t))
+own_told free first own heard all f is holds = or_right free all (is ∙ ap (λ x. x || heard) (sym f ∙ holds))
 
 -- what follows from what a false answer guarantees is guaranteed by it, too
 pub fewer_left : {A B : Type 0} (left : Bool) → (A → B) → OnFalse left A → OnFalse left B
@@ -75,6 +76,6 @@ pub left_nowhere : (g : Graph) (order : List ℕ) (cube : List Literal) (told : 
     list_any (λ b. matches b s) told ≡ true → facts s ≡ true)
     → IsFirst g order (is_left told cube) o →
     OnFalse (is_some o) ((s : Scenario) → IsScenario g s → matches cube s ≡ true → facts s ≡ true)
-left_nowhere g order cube told None facts h f = λ s i m. h s i m (not-false (list_any (λ b. matches b s) told)
-    (sym (ap (λ t. t && not (list_any (λ b. matches b s) told)) m) ∙ f s i))
-left_nowhere g order cube told (Some least) facts h f = tt
+left_nowhere g order cube told None facts h is_first = λ s i m. h s i m (not-false (list_any (λ b. matches b s) told)
+    (sym (ap (λ t. t && not (list_any (λ b. matches b s) told)) m) ∙ is_first s i))
+left_nowhere g order cube told (Some least) facts h is_first = tt

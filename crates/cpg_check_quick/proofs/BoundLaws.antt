@@ -18,17 +18,17 @@ use Rattle.cpg_check_quick.specs.HeardRows.{AreToldIn, IsToldIn}
 
 -- in a list that is empty if `b` holds, and has only `x` otherwise, each element `y` is `x`
 one_of : {X : Type 0} (b : Bool) (x y : X) → Contains (cond b [] (x ∷ [])) y → x ≡ y
-one_of true x y h = absurd (Contains-nil y h)
-one_of false x y h = elim (Contains-cases x [] y h) [ inl e ↦ e | inr k ↦ absurd (Contains-nil y k) ]
+one_of true x y there = absurd (Contains-nil y there)
+one_of false x y there = elim (Contains-cases x [] y there) [ inl e ↦ e | inr here ↦ absurd (Contains-nil y here) ]
 
 -- a list that is empty if `b` holds, and has only `x` otherwise, has `x` if `b` doesn't hold
 one_there : {X : Type 0} (b : Bool) (x : X) → b ≡ false → Contains (cond b [] (x ∷ [])) x
-one_there b x e = subst (λ xs. Contains xs x) (sym (cond-false b [] (x ∷ []) e)) (Contains-first x [])
+one_there b x fails = subst (λ xs. Contains xs x) (sym (cond-false b [] (x ∷ []) fails)) (Contains-first x [])
 
 -- literal `l`, one of a list, implies each of its own bounds `w`, its low and its high
 bound_wider : (k : ℕ) (literals : List Literal) (l w : Literal) → Contains literals l → Contains (bounds_of k l) w →
     IsToldIn literals w
-bound_wider k literals l w there h = elim (Contains-append_cases (low_of k l) (high_of k l) w h) [
+bound_wider k literals l w there among = elim (Contains-append_cases (low_of k l) (high_of k l) w among) [
   | inl low ↦ subst (IsToldIn literals)
       (one_of (l.low == 0) (record { variable = l.variable; low = l.low; high = max l.high (top k l.variable) }) w low)
       (record { by = l; there = there; variable = refl; low = omega arith; high = omega arith })
@@ -39,20 +39,21 @@ bound_wider k literals l w there h = elim (Contains-append_cases (low_of k l) (h
 
 -- an element `x` of `xs` is in a list that is empty if `b` holds, and `xs` otherwise, if `b` doesn't hold
 unknown_there : {X : Type 0} (b : Bool) (xs : List X) (x : X) → b ≡ false → Contains xs x → Contains (cond b [] xs) x
-unknown_there b xs x e h = subst (λ ys. Contains ys x) (sym (cond-false b [] xs e)) h
+unknown_there b xs x fails there = subst (λ ys. Contains ys x) (sym (cond-false b [] xs fails)) there
 
 -- each element `x` of a list that is empty if `b` holds, and `xs` otherwise, is one of `xs`
 unknown_parts : {X : Type 0} (b : Bool) (xs : List X) (x : X) → Contains (cond b [] xs) x → Contains xs x
-unknown_parts true xs x h = absurd (Contains-nil x h)
-unknown_parts false xs x h = h
+unknown_parts true xs x there = absurd (Contains-nil x there)
+unknown_parts false xs x there = there
 
 -- each bound `w` that is listed for some literals is implied by one of them
 bounds_wider : (k : ℕ) (known : List Bool) (literals : List Literal) (w : Literal) →
     Contains (flat_map (unknown_bounds k known) literals) w →
     IsToldIn literals w
-bounds_wider k known literals w h =
-    let p = Contains-flat_map_parts (unknown_bounds k known) literals w h in
-    bound_wider k literals p.0 w p.1 (unknown_parts (get_or known p.0.variable false) (bounds_of k p.0) w p.2)
+bounds_wider k known literals w listed =
+    let from = Contains-flat_map_parts (unknown_bounds k known) literals w listed in
+    bound_wider k literals from.0 w from.1
+    (unknown_parts (get_or known from.0.variable false) (bounds_of k from.0) w from.2)
 
 -- `known` are the literals that a node has learnt, which imply the low and the high of literal `l`
 module _ (k : ℕ) (known : List Literal) (l : Literal)
@@ -62,18 +63,18 @@ module _ (k : ℕ) (known : List Literal) (l : Literal)
   low_heard = elim (cases_eq l.low 0) [
     | inl none ↦ le-leb l.low (kept_low known l.variable) (omega (arith, none))
     | inr some ↦
-        let w : Literal = record { variable = l.variable; low = l.low; high = max l.high (top k l.variable) } in
-        (and_parts _ _ (heard w
-        (Contains-append_left (low_of k l) (high_of k l) w (one_there (l.low == 0) w (ne_eqb l.low 0 some))))).0
+        let bound : Literal = record { variable = l.variable; low = l.low; high = max l.high (top k l.variable) } in
+        (and_parts _ _ (heard bound
+        (Contains-append_left (low_of k l) (high_of k l) bound (one_there (l.low == 0) bound (ne_eqb l.low 0 some))))).0
   ]
 
   -- the least high that is kept is at most the literal's: that leaves out no number, or it is a bound that is heard
   high_heard : nat_le (kept_high k known l.variable) l.high ≡ true
   high_heard = elim (cases_lt l.high (top k l.variable)) [
     | inl below ↦
-        let w : Literal = record { variable = l.variable; low = 0; high = l.high } in
-        (and_parts _ _ (heard w (Contains-append_right (low_of k l) (high_of k l) w
-        (one_there (nat_le (top k l.variable) l.high) w (lt-leb (top k l.variable) l.high below))))).1
+        let bound : Literal = record { variable = l.variable; low = 0; high = l.high } in
+        (and_parts _ _ (heard bound (Contains-append_right (low_of k l) (high_of k l) bound
+        (one_there (nat_le (top k l.variable) l.high) bound (lt-leb (top k l.variable) l.high below))))).1
     | inr free ↦ le-leb (kept_high k known l.variable) l.high
         (omega (
           arith,
@@ -104,8 +105,9 @@ module _ (g : Graph) (tables : List NodeTable) (node : ℕ) (c : Column) (known 
     where
       -- by whether the literal's variable is known: it is heard by that, or by its bounds
       go : (b : Bool) → get_or known l.variable false ≡ b → is_heard g.faults (facts g tables node s c.time) l ≡ true
-      go true e = own l h e s law m
-      go false e =
-          bound_heard g.faults (facts g tables node s c.time) l (λ w k. heard w (subst (λ ws. Contains ws w) (sym is)
+      go true equal = own l h equal s law m
+      go false same =
+          bound_heard g.faults (facts g tables node s c.time) l
+          (λ w there. heard w (subst (λ ws. Contains ws w) (sym is)
           (Contains-flat_map (unknown_bounds g.faults known) c.cube l w h
-          (unknown_there (get_or known l.variable false) (bounds_of g.faults l) w e k))) s law m)
+          (unknown_there (get_or known l.variable false) (bounds_of g.faults l) w same there))) s law m)

@@ -24,18 +24,18 @@ use Rattle.cpg_violation.proofs.SureLaws.{sure_of}
 -- each time of item `x` in scenario `s` is that of a column `d` that matches
 at_parts : (tables : List NodeTable) (x : ℕ) (s : Scenario) (time : ℕ) → Contains (at tables x s) time →
     (d : Column) × Contains (columns_of tables x) d × (matches d.cube s ≡ true) × (d.time ≡ time)
-at_parts tables x s time h =
-    let r = Contains-map_parts (λ (c : Column). c.time)
-    (filter (λ (c : Column). matches c.cube s) (columns_of tables x)) time h in
-    let q = Contains-filter_parts (λ (c : Column). matches c.cube s) (columns_of tables x) r.0 r.1 in
-    (r.0, q.0, q.1, r.2)
+at_parts tables x s time there =
+    let column = Contains-map_parts (λ (c : Column). c.time)
+    (filter (λ (c : Column). matches c.cube s) (columns_of tables x)) time there in
+    let kept = Contains-filter_parts (λ (c : Column). matches c.cube s) (columns_of tables x) column.0 column.1 in
+    (column.0, kept.0, kept.1, column.2)
 
 -- a test that fails at the time of each column `d` of item `x` that matches passes at none of the item's times
 none_at : (tables : List NodeTable) (x : ℕ) (s : Scenario) (test : ℕ → Bool) →
     ((d : Column) → Contains (columns_of tables x) d → matches d.cube s ≡ true → test d.time ≡ false) →
     list_any test (at tables x s) ≡ false
 none_at tables x s test none = list_any_false test (at tables x s)
-    (λ time h. let it = at_parts tables x s time h in sym (ap test it.3) ∙ none it.0 it.1 it.2)
+    (λ time there. let it = at_parts tables x s time there in sym (ap test it.3) ∙ none it.0 it.1 it.2)
 
 -- ---- V6
 
@@ -48,8 +48,8 @@ no_overlap a b c d (inr h) = and_right (nat_lt a (c + d)) (nat_lt c (a + b)) (le
 module _ (g : Graph) (tables : List NodeTable) (p : ℕ) where
   -- V6 is sure at a message or a broadcast, which has no execution
   pub sure_no_process : process_count g ≤ p → IsSure g tables Rule.Processor p
-  sure_no_process l = sure_of g tables Rule.Processor p refl
-      (λ s c earlier law there m. and_left (nat_lt p (process_count g)) _ (le-ltb p (process_count g) l))
+  sure_no_process at_most = sure_of g tables Rule.Processor p refl
+      (λ s c earlier law there m. and_left (nat_lt p (process_count g)) _ (le-ltb p (process_count g) at_most))
 
   -- V6 is sure at an item that is apart from each lower process of its node: where it and a column of such a process
   -- match, their executions don't overlap
@@ -81,7 +81,7 @@ module _ (g : Graph) (tables : List NodeTable) (p : ℕ) where
 module _ (g : Graph) (tables : List NodeTable) (x : ℕ) where
   -- V7 is sure at an item that isn't sent
   pub sure_not_sent : is_sent g x ≡ false → IsSure g tables Rule.Slot x
-  sure_not_sent e = sure_of g tables Rule.Slot x refl (λ s c earlier law there m. and_left (is_sent g x) _ e)
+  sure_not_sent fails = sure_of g tables Rule.Slot x refl (λ s c earlier law there m. and_left (is_sent g x) _ fails)
 
   -- sends at `a` and `c` that last 1, one of which is over by the time of the other, are at different times
   other_time : (a c : ℕ) → (a + 1 ≤ c) ⊎ (c + 1 ≤ a) → (a == c) ≡ false
@@ -102,12 +102,12 @@ module _ (g : Graph) (tables : List NodeTable) (x : ℕ) where
       (λ y. is_sent g y && (home g y == home g x) && list_any (λ t. t == c.time) (at tables y s)) (numbers_below x))
       (eq-eqb (next_slot g (home g x) c.time) c.time start)
       ∙ list_any_false (λ y. is_sent g y && (home g y == home g x) && list_any (λ t. t == c.time) (at tables y s))
-      (numbers_below x) (λ y k.
-      off_where (is_sent g y && (home g y == home g x)) (list_any (λ t. t == c.time) (at tables y s)) (λ e.
+      (numbers_below x) (λ y among.
+      off_where (is_sent g y && (home g y == home g x)) (list_any (λ t. t == c.time) (at tables y s)) (λ holds.
       none_at tables y s (λ t. t == c.time) (λ d at n. other_time d.time c.time
       (All-contains (λ y. IsApart sending g tables y x)
       (filter (λ y. is_sent g y && (home g y == home g x)) (numbers_below x)) y apart
-      (Contains-filter (λ y. is_sent g y && (home g y == home g x)) (numbers_below x) y e k) s c law
+      (Contains-filter (λ y. is_sent g y && (home g y == home g x)) (numbers_below x) y holds among) s c law
       there m d at n))))))
 
   -- V7 is sure at item `x` if it is apart from each of `lower`, which are the lower items that its node sends, and if each

@@ -23,17 +23,18 @@ module _ (tables : List NodeTable) (x : ℕ) (s : Scenario) (done : ℕ → ℕ)
   -- if column `d` of the item matches, and what it begins is done by `time`, something that the item begins is
   pub come_by : (d : Column) → Contains (columns_of tables x) d → matches d.cube s ≡ true → done d.time ≤ time →
       is_by time (map done (at tables x s)) ≡ true
-  come_by d k m l = list_any_true (λ m. nat_le m time) (map done (at tables x s)) (done d.time)
-      (Contains-map done (at tables x s) d.time (in_at tables x s d k m)) (le-leb (done d.time) time l)
+  come_by d there it_matches at_most = list_any_true (λ m. nat_le m time) (map done (at tables x s)) (done d.time)
+      (Contains-map done (at tables x s) d.time (in_at tables x s d there it_matches))
+      (le-leb (done d.time) time at_most)
 
   -- if something that the item begins is done by `time`, a column that matches begins it
   pub by_parts : is_by time (map done (at tables x s)) ≡ true →
       (d : Column) × Contains (columns_of tables x) d × (matches d.cube s ≡ true) × (done d.time ≤ time)
-  by_parts t =
-      let m = list_any_parts (λ m. nat_le m time) (map done (at tables x s)) t in
-      let r = Contains-map_parts done (at tables x s) m.0 m.1 in
-      let e = at_parts tables x s r.0 r.1 in
-      (e.0, e.1, e.2, omega (arith, leb-true m.0 time m.2, ap done e.3, r.2))
+  by_parts done_by =
+      let moment = list_any_parts (λ m. nat_le m time) (map done (at tables x s)) done_by in
+      let start = Contains-map_parts done (at tables x s) moment.0 moment.1 in
+      let column = at_parts tables x s start.0 start.1 in
+      (column.0, column.1, column.2, omega (arith, leb-true moment.0 time moment.2, ap done column.3, start.2))
 
 -- tables that keep V1 to V3, a scenario and a time
 module _ (g : Graph) (tables : List NodeTable) (rules : AllHold g tables row_rules) (s : Scenario)
@@ -42,18 +43,20 @@ module _ (g : Graph) (tables : List NodeTable) (rules : AllHold g tables row_rul
   pub over_ended : (q : ℕ) → q < process_count g → active g s.values q ≡ true →
       IsOverBy tables (execution g q s) q time s →
       is_by time (ends_of g tables s q) ≡ true
-  over_ended q l a over =
-      let d =
-      match_where g tables s law q (omega arith) rules (ap (item_active g s.values) (item_at-start g q l) ∙ a) in
-      come_by tables q s (λ start. start + duration g q (fault_of s q)) time d.0 d.1 d.2 (over d.0 d.1 d.2)
+  over_ended q within is_active over =
+      let ran =
+      match_where g tables s law q (omega arith) rules
+      (ap (item_active g s.values) (item_at-start g q within) ∙ is_active) in
+      come_by tables q s (λ start. start + duration g q (fault_of s q)) time ran.0 ran.1 ran.2 (over ran.0 ran.1 ran.2)
 
   -- if the edge of a message is live and the message over by whichever of its columns matches, it has come: by V3 one
   -- does
   pub over_arrived : (e : ℕ) → e < edge_count g → is_message g e ≡ true → live g s.values e ≡ true →
       IsOverBy tables (slot_length g (home g (message_item g e))) (message_item g e) time s
       → is_by time (arrivals_of g tables s (message_item g e)) ≡ true
-  over_arrived e l m a over =
-      let d = match_where g tables s law (message_item g e) (omega arith) rules
-      (ap (item_active g s.values) (item_at-message g e l) ∙ and_from _ _ m a) in
-      come_by tables (message_item g e) s (λ start. start + slot_length g (home g (message_item g e))) time d.0 d.1 d.2
-      (over d.0 d.1 d.2)
+  over_arrived e within it_is_message is_live over =
+      let sent = match_where g tables s law (message_item g e) (omega arith) rules
+      (ap (item_active g s.values) (item_at-message g e within) ∙ and_from _ _ it_is_message is_live) in
+      come_by tables (message_item g e) s (λ start. start + slot_length g (home g (message_item g e)))
+      time sent.0 sent.1 sent.2
+      (over sent.0 sent.1 sent.2)

@@ -35,11 +35,11 @@ module _ (g : Graph) (tables : List NodeTable) (node time : ℕ) (s : Scenario) 
   heard_fact : (m : Literal) → Contains (facts g tables node s time) m → m.variable ≡ l.variable → l.low ≤ m.low →
       m.high ≤ l.high →
       is_heard g.faults (facts g tables node s time) l ≡ true
-  heard_fact m k same low high =
+  heard_fact m there same low high =
       let known : List Literal = facts g tables node s time in
       -- `m` is among the facts on the variable of `l`
       let here : Contains (filter (λ (n : Literal). n.variable == l.variable) known) m =
-      Contains-filter (λ (n : Literal). n.variable == l.variable) known m (eq-eqb m.variable l.variable same) k in
+      Contains-filter (λ (n : Literal). n.variable == l.variable) known m (eq-eqb m.variable l.variable same) there in
       -- so the greatest low of these is at least that of `m`, and the least high at most that of `m`
       let above =
       greatest_above (map (λ (n : Literal). n.low) (filter (λ (n : Literal). n.variable == l.variable) known)) m.low
@@ -52,7 +52,7 @@ module _ (g : Graph) (tables : List NodeTable) (node time : ℕ) (s : Scenario) 
 
   -- an element `m` of `xs` is in a list that is `xs` if `b` holds, and empty otherwise, if `b` holds
   kept_where : (b : Bool) (xs : List Literal) (m : Literal) → b ≡ true → Contains xs m → Contains (cond b xs []) m
-  kept_where b xs m e k = subst (λ ys. Contains ys m) (sym (cond-true b xs [] e)) k
+  kept_where b xs m holds there = subst (λ ys. Contains ys m) (sym (cond-true b xs [] holds)) there
 
   -- if a column of an item that the node hears matches, and its frame has come by the time and tells a literal `m` that
   -- implies it, the literal is heard: `m` is one of the facts of that frame
@@ -85,11 +85,12 @@ module _ (g : Graph) (tables : List NodeTable) (node time : ℕ) (s : Scenario) 
       (sym same)
       (Contains-first (exactly q (number_of s q)) (value_fact s (condition_of g q)))
   end_tells v q few (inr value) of_it =
-      let c : ℕ = v - 128 in
-      let is : value_variable c ≡ v = omega (arith, value.0) in
-      let at : process_of g c ≡ q = sym (cond-false _ v (process_of g (v - 128)) (le-ltb v 128 value.0)) ∙ of_it in
-      let has : condition_of g q ≡ Some c =
-      ap (condition_of g) (sym at) ∙ condition_of_process_of g c (omega (arith, value.0, value.1)) in
+      let condition : ℕ = v - 128 in
+      let is : value_variable condition ≡ v = omega (arith, value.0) in
+      let at : process_of g condition ≡ q = sym (cond-false _ v (process_of g (v - 128))
+      (le-ltb v 128 value.0)) ∙ of_it in
+      let has : condition_of g q ≡ Some condition =
+      ap (condition_of g) (sym at) ∙ condition_of_process_of g condition (omega (arith, value.0, value.1)) in
       Contains-rest (exactly q (number_of s q)) (value_fact s (condition_of g q)) (exactly v (number_of s v))
       (subst (λ o. Contains (value_fact s o) (exactly v (number_of s v))) (sym has)
       (subst (λ w. Contains (exactly w (number_of s w) ∷ []) (exactly v (number_of s v))) (sym is)
@@ -102,21 +103,21 @@ module _ (g : Graph) (tables : List NodeTable) (node time : ℕ) (s : Scenario) 
       process_of_variable g l.variable ≡ q
       → holds s l ≡ true → is_heard g.faults (facts g tables node s time) l ≡ true
   heard_end q few within on come known of_it h =
-      let d = by_parts tables q s (λ start. start + duration g q (fault_of s q)) time come in
-      let m : Literal = exactly l.variable (number_of s l.variable) in
+      let ran = by_parts tables q s (λ start. start + duration g q (fault_of s q)) time come in
+      let exact : Literal = exactly l.variable (number_of s l.variable) in
       let range = and_parts _ _ h in
-      heard_fact m
-      (Contains-append_left _ _ m (Contains-flat_map (facts_of_end g tables s time)
-      (filter (λ p. node_of g p == node) (numbers_below (process_count g))) q m
+      heard_fact exact
+      (Contains-append_left _ _ exact (Contains-flat_map (facts_of_end g tables s time)
+      (filter (λ p. node_of g p == node) (numbers_below (process_count g))) q exact
       (Contains-filter (λ p. node_of g p == node) (numbers_below (process_count g)) q (eq-eqb (node_of g q) node on)
       (Contains-numbers (process_count g) q within))
       (Contains-flat_map (λ (c : Column). cond (leb (c.time + duration g q (number_of s q)) time)
-      (exactly q (number_of s q) ∷ value_fact s (condition_of g q)) []) (matching tables s q) d.0 m
-      (Contains-filter (λ (c : Column). matches c.cube s) (columns_of tables q) d.0 d.2 d.1)
-      (kept_where (leb (d.0.time + duration g q (number_of s q)) time)
-      (exactly q (number_of s q) ∷ value_fact s (condition_of g q)) m
-      (ap (λ n. leb (d.0.time + duration g q n) time) (number_of-fault s q (omega (arith, within, few)))
-      ∙ le-leb _ _ d.3)
+      (exactly q (number_of s q) ∷ value_fact s (condition_of g q)) []) (matching tables s q) ran.0 exact
+      (Contains-filter (λ (c : Column). matches c.cube s) (columns_of tables q) ran.0 ran.2 ran.1)
+      (kept_where (leb (ran.0.time + duration g q (number_of s q)) time)
+      (exactly q (number_of s q) ∷ value_fact s (condition_of g q)) exact
+      (ap (λ n. leb (ran.0.time + duration g q n) time) (number_of-fault s q (omega (arith, within, few)))
+      ∙ le-leb _ _ ran.3)
       (end_tells l.variable q few known of_it)))))
       refl (leb-true _ _ range.0) (leb-true _ _ range.1)
 

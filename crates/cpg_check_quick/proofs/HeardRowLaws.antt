@@ -25,7 +25,7 @@ use Rattle.cpg_check_quick.proofs.HeardLaws.{heard_frame}
 
 -- the row of an item that the node hears, places of its columns, a column `c`, and a literal that `c` implies
 module _ {g : Graph} {tables : List NodeTable} {node : ℕ} {row : HeardRow} (is : IsHeardRow g tables node row)
-    (places : List ℕ) (c : Column) (l : Literal) (h : IsToldIn c.cube l) where
+    (places : List ℕ) (c : Column) (l : Literal) (is_told : IsToldIn c.cube l) where
   -- if the scenario's place in the row's tree is among the places, the frame of its column has come by the time of `c`,
   -- and the frames tell the literal, it is heard; by cases of whether the frame carries the value or the column implies
   -- it
@@ -35,21 +35,21 @@ module _ {g : Graph} {tables : List NodeTable} {node : ℕ} {row : HeardRow} (is
       → HasCome row.columns.now row.delay c.time o → IsAmong places o →
       is_heard g.faults (facts g tables node s c.time) l ≡ true
   -- there is a place, as it is among the places
-  told_by s law m told None e come among = absurd among
-  told_by s law m told (Some i) e come among =
+  told_by s law it_matches told None equal come among = absurd among
+  told_by s law it_matches told (Some i) e come among =
       -- the column at the place matches, and its frame has come
-      let d : Column = column_at (columns_of tables row.item) i in
+      let column : Column = column_at (columns_of tables row.item) i in
       let there : i < length (columns_of tables row.item) = place_there is.tree s law i e in
-      let match : matches d.cube s ≡ true = place_matches is.tree s law i e in
-      let same : column_at row.columns.now i ≡ d = ap (λ columns. column_at columns i) is.columns in
-      let by : d.time + slot_length g (home g row.item) ≤ c.time =
+      let match : matches column.cube s ≡ true = place_matches is.tree s law i e in
+      let same : column_at row.columns.now i ≡ column = ap (λ columns. column_at columns i) is.columns in
+      let by : column.time + slot_length g (home g row.item) ≤ c.time =
       omega (arith, come, ap (λ (d : Column). d.time) same, is.delay) in
       -- the variable's number is in the range of the literal of `c` that implies `l`
-      let inside = and_parts _ _ (from_all (holds s) c.cube h.by m h.there) in
-      let from : h.by.low ≤ number_of s l.variable =
-      subst (λ v. h.by.low ≤ number_of s v) h.variable (leb-true _ _ inside.0) in
-      let to : number_of s l.variable ≤ h.by.high =
-      subst (λ v. number_of s v ≤ h.by.high) h.variable (leb-true _ _ inside.1) in
+      let inside = and_parts _ _ (from_all (holds s) c.cube is_told.by it_matches is_told.there) in
+      let from : is_told.by.low ≤ number_of s l.variable =
+      subst (λ v. is_told.by.low ≤ number_of s v) is_told.variable (leb-true _ _ inside.0) in
+      let to : number_of s l.variable ≤ is_told.by.high =
+      subst (λ v. number_of s v ≤ is_told.by.high) is_told.variable (leb-true _ _ inside.1) in
       elim told as (λ _. is_heard g.faults (facts g tables node s c.time) l ≡ true) [
         -- the frame carries the value of the variable
         | inl value ↦
@@ -58,17 +58,17 @@ module _ {g : Graph} {tables : List NodeTable} {node : ℕ} {row : HeardRow} (is
             subst (λ o. IfSome o
             (λ v. (s : Scenario) → Contains (frame_value s (item_at g row.item)) (exactly v (number_of s v))))
             value is.value s in
-            heard_frame g tables node c.time s l row.item d (exactly l.variable (number_of s l.variable)) is.item
+            heard_frame g tables node c.time s l row.item column (exactly l.variable (number_of s l.variable)) is.item
             is.heard (Contains-get_or (columns_of tables row.item) i _ there) match by
-            (Contains-append_right d.cube (frame_value s (item_at g row.item)) _ carried) refl
-            (omega (arith, h.low, from)) (omega (arith, to, h.high))
+            (Contains-append_right column.cube (frame_value s (item_at g row.item)) _ carried) refl
+            (omega (arith, is_told.low, from)) (omega (arith, to, is_told.high))
         -- the column at the place implies the literal
         | inr all ↦
-            let at : IsToldIn d.cube l = subst (λ (d : Column). IsToldIn d.cube l) same
+            let at : IsToldIn column.cube l = subst (λ (d : Column). IsToldIn d.cube l) same
             (All-contains (λ i. IsToldIn (column_at row.columns.now i).cube l) places i all among) in
-            heard_frame g tables node c.time s l row.item d at.by is.item is.heard
+            heard_frame g tables node c.time s l row.item column at.by is.item is.heard
             (Contains-get_or (columns_of tables row.item) i _ there) match by
-            (Contains-append_left d.cube (frame_value s (item_at g row.item)) at.by at.there)
+            (Contains-append_left column.cube (frame_value s (item_at g row.item)) at.by at.there)
             at.variable at.low at.high
       ]
 
@@ -77,8 +77,8 @@ module _ {g : Graph} {tables : List NodeTable} {node : ℕ} {row : HeardRow} (is
       HasCome row.columns.now row.delay c.time (place_at row.tree.now s) ×
       IsAmong places (place_at row.tree.now s))
       → IsTold row.value row.columns.now places l → IsHeardIn g tables node c l
-  told_literal_heard found told s law m = let r = found s law m in
-      told_by s law m told (place_at row.tree.now s) refl r.0 r.1
+  told_literal_heard found told s law m = let found_here = found s law m in
+      told_by s law m told (place_at row.tree.now s) refl found_here.0 found_here.1
 
 -- literals that are wanted, which column `c` implies, and those of them that are left
 module _ {g : Graph} {tables : List NodeTable} {node : ℕ} {row : HeardRow} (is : IsHeardRow g tables node row)
@@ -117,9 +117,9 @@ pub heard_row_at : {g : Graph} {tables : List NodeTable} {node : ℕ} {all : Lis
     All (IsHeardRow g tables node) all
     → (i : ℕ) (row : HeardRow) (list : List HeardRow) → list ≡ all → i < length list → row ≡ get_or list i row
     → IsHeardRow g tables node row
-heard_row_at {g = g} {tables = tables} {node = node} each i row list same l is =
+heard_row_at {g = g} {tables = tables} {node = node} each i row list same within is =
     subst (IsHeardRow g tables node) (sym (is ∙ ap (λ (ys : List HeardRow). get_or ys i row) same))
-    (each i row (omega (arith, l, ap length same)))
+    (each i row (omega (arith, within, ap length same)))
 
 -- column `c` begins with the literals of column `d` of a heard row, whose frame has come by the time of `c`
 module _ {g : Graph} {tables : List NodeTable}
@@ -132,8 +132,8 @@ module _ {g : Graph} {tables : List NodeTable}
 
   -- wherever `c` matches, `d` does
   first_matches : (s : Scenario) → matches c.cube s ≡ true → matches d.cube s ≡ true
-  first_matches s m = (and_parts _ _ (sym (list_all-append (holds s) d.cube (drop (length d.cube) c.cube))
-      ∙ ap (λ cube. matches cube s) both_parts ∙ m)).0
+  first_matches s it_matches = (and_parts _ _ (sym (list_all-append (holds s) d.cube (drop (length d.cube) c.cube))
+      ∙ ap (λ cube. matches cube s) both_parts ∙ it_matches)).0
 
   -- if the last literals of `c` are heard, all are: the first ones are told by the frame of `d`
   pub begun_heard : ((l : Literal) → Contains (drop (length d.cube) c.cube) l → IsHeardIn g tables node c l) →
@@ -141,7 +141,8 @@ module _ {g : Graph} {tables : List NodeTable}
   begun_heard behind l h = elim (Contains-append_cases d.cube (drop (length d.cube) c.cube) l
       (subst (λ cube. Contains cube l) (sym both_parts) h)) as (λ _. IsHeardIn g tables node c l) [
         | inl first ↦
-            λ s law m. heard_frame g tables node c.time s l row.item d l is.item is.heard there (first_matches s m)
+            λ s law it_matches. heard_frame g tables node c.time s l row.item d l is.item is.heard there
+            (first_matches s it_matches)
             (omega (arith, come, is.delay))
             (Contains-append_left d.cube (frame_value s (item_at g row.item)) l first) refl
             (omega arith) (omega arith)

@@ -38,11 +38,11 @@ module _ (g : Graph) (tables : List NodeTable) where
       ((c : Column) → Contains (columns_of tables p) c → (process_at g p).release ≤ c.time)
       → ((c : Column) (e : ℕ) → Contains (columns_of tables p) c → Contains (inputs g p) e →
       IsInputThere g tables c e) → IsSure g tables Rule.Inputs p
-  start_sure p l released there = sure_of g tables Rule.Inputs p refl (λ s c earlier law k m.
-      ap (breaks_inputs_of g tables s c.time) (item_at-start g p l)
+  start_sure p within released there = sure_of g tables Rule.Inputs p refl (λ s c earlier law k m.
+      ap (breaks_inputs_of g tables s c.time) (item_at-start g p within)
       ∙ ap₂ (λ a b. a || b) (le-ltb c.time (process_at g p).release (released c k))
       (list_any_false (λ e. not (input_is_there g tables s c.time e)) (filter (live g s.values) (inputs g p))
-      (λ e h. let in_it = Contains-filter_parts (live g s.values) (inputs g p) e h in
+      (λ e among. let in_it = Contains-filter_parts (live g s.values) (inputs g p) e among in
       ap not (there c e k in_it.0 s law m in_it.1))))
 
   -- the tables keep V1 to V3
@@ -52,10 +52,10 @@ module _ (g : Graph) (tables : List NodeTable) where
     pub send_sure : WellFormed g → (x : ℕ) → x < item_count g → process_count g ≤ x →
         IsBefore g tables (producer g x) x →
         IsSure g tables Rule.Inputs x
-    send_sure formed x l send before = sure_of g tables Rule.Inputs x refl (λ s c earlier law k m.
-        waits g s x l send tables c.time
-        ∙ ap not (over_ended g tables rules s law c.time (producer g x) (producer_within g formed x l)
-        (made g s x l send (active_where g tables s law x l rules c k m)) (before s c law k m)))
+    send_sure formed x within send before = sure_of g tables Rule.Inputs x refl (λ s c earlier law k m.
+        waits g s x within send tables c.time
+        ∙ ap not (over_ended g tables rules s law c.time (producer g x) (producer_within g formed x within)
+        (made g s x within send (active_where g tables s law x within rules c k m)) (before s c law k m)))
 
     -- a column of a start, and an input
     module _ (c : Column) (e : ℕ) where
@@ -63,24 +63,25 @@ module _ (g : Graph) (tables : List NodeTable) where
       there_if : (s : Scenario) (b : Bool) → is_message g e ≡ b →
           is_by c.time (cond b (arrivals_of g tables s (message_item g e)) (ends_of g tables s (source g e))) ≡ true →
           input_is_there g tables s c.time e ≡ true
-      there_if s b m h =
+      there_if s b is holds =
           ap (λ b. is_by c.time (cond b (arrivals_of g tables s (message_item g e)) (ends_of g tables s (source g e))))
-          m ∙ h
+          is ∙ holds
 
       -- an input that is a message is there if the message is over by the column's time wherever that matches
       pub message_there : e < edge_count g → is_message g e ≡ true
           → ((s : Scenario) → IsScenario g s → matches c.cube s ≡ true → live g s.values e ≡ true →
           IsOverBy tables (slot_length g (home g (message_item g e))) (message_item g e) c.time s) →
           IsInputThere g tables c e
-      message_there l sent over s law m a =
-          there_if s true sent (over_arrived g tables rules s law c.time e l sent a (over s law m a))
+      message_there within sent over s law m a =
+          there_if s true sent (over_arrived g tables rules s law c.time e within sent a (over s law m a))
 
       -- an input that isn't a message is there if the execution of its source is over by the column's time wherever the
       -- column matches
       pub source_there : is_message g e ≡ false → source g e < process_count g
           → ((s : Scenario) → IsScenario g s → matches c.cube s ≡ true → live g s.values e ≡ true →
           IsOverBy tables (execution g (source g e) s) (source g e) c.time s) → IsInputThere g tables c e
-      source_there near l over s law m a = there_if s false near (over_ended g tables rules s law c.time (source g e) l
+      source_there near less over s law m a = there_if s false near
+          (over_ended g tables rules s law c.time (source g e) less
           (and_parts (active g s.values (source g e)) _ a).0 (over s law m a))
 
       -- an input of either kind is there if what it comes by is over by the column's time wherever the column matches
@@ -88,18 +89,18 @@ module _ (g : Graph) (tables : List NodeTable) where
           ((s : Scenario) → IsScenario g s → matches c.cube s ≡ true → live g s.values e ≡ true →
           IsInputOver g tables e c.time s) →
           IsInputThere g tables c e
-      input_there l from over = go (is_message g e) refl
+      input_there within from over = go (is_message g e) refl
         where
           -- by whether the input is a message
           go : (b : Bool) → is_message g e ≡ b → IsInputThere g tables c e
-          go true m = message_there l m (λ s law h a. (over s law h a).message m)
-          go false m = source_there m from (λ s law h a. (over s law h a).source m)
+          go true is = message_there within is (λ s law h a. (over s law h a).message is)
+          go false is = source_there is from (λ s law h a. (over s law h a).source is)
 
       -- an input is there if its source, on the same node, is always over before process `p`, which the column starts
       pub before_there : (p : ℕ) → source g e < process_count g → Contains (columns_of tables p) c →
           IsFromBefore g tables e p →
           IsInputThere g tables c e
-      before_there p from k near = source_there near.near from (λ s law m a. near.before s c law k m)
+      before_there p from there near = source_there near.near from (λ s law m a. near.before s c law there m)
 
     -- each of several inputs is there by column `c` if what it comes by is over by the column's time wherever that
     -- matches
@@ -116,13 +117,13 @@ module _ (g : Graph) (tables : List NodeTable) where
         (others : List ℕ)
         → ((e : ℕ) → Contains (inputs g p) e → Contains others e ⊎ IsFromBefore g tables e p) →
         All (IsLateEnough g tables others release) (columns_of tables p) → IsSure g tables Rule.Inputs p
-    start_late formed p l release is others known late = start_sure p l
+    start_late formed p within release is others known late = start_sure p within
         (λ c k. let at = All-contains (IsLateEnough g tables others release) (columns_of tables p) c late k in
         omega (arith, is, at.released))
-        (λ c e k h. elim (known e h) [
+        (λ c e there h. elim (known e h) [
           | inl other ↦
-              (All-contains (IsLateEnough g tables others release) (columns_of tables p) c late k).there e other
-          | inr near ↦ before_there c e p (formed.sources e (inputs_parts g p e h).0) k near
+              (All-contains (IsLateEnough g tables others release) (columns_of tables p) c late there).there e other
+          | inr near ↦ before_there c e p (formed.sources e (inputs_parts g p e h).0) there near
         ])
 
 -- the step of a loop over `edges` that keeps those for which a fact isn't known to hold: element `k` is the next one
@@ -130,16 +131,20 @@ module _ (g : Graph) (tables : List NodeTable) where
 module _ {T : Type 0} (fact : T → Type 0) (edges kept : List T) (k : ℕ) (any : T) (within : k < length edges) where
   -- one of the first k + 1 elements is one of the first k, or the next one
   one_of : (d : T) → Contains (take (k + 1) edges) d → Contains (take k edges) d ⊎ (get_or edges k any ≡ d)
-  one_of d c = Contains-push_cases (take k edges) (get_or edges k any) d
-      (subst (λ xs. Contains xs d) (take_more edges k any within) c)
+  one_of d there = Contains-push_cases (take k edges) (get_or edges k any) d
+      (subst (λ xs. Contains xs d) (take_more edges k any within) there)
 
   -- if the element at place `k` is kept, each `d` of the first `k + 1` is kept or has the fact
   pub others_push : ((d : T) → Contains (take k edges) d → Contains kept d ⊎ fact d) → (d : T) →
       Contains (take (k + 1) edges) d →
       Contains (kept ++ get_or edges k any ∷ []) d ⊎ fact d
-  others_push before d c = elim (one_of d c) [
+  others_push before d there = elim (one_of d there) [
     | inl b ↦
-        elim (before d b) [ inl h ↦ inl (Contains-append_left kept (get_or edges k any ∷ []) d h) | inr f ↦ inr f ]
+        elim (before d b) [
+          | inl among ↦
+              inl (Contains-append_left kept (get_or edges k any ∷ []) d among)
+          | inr f ↦ inr f
+        ]
     | inr q ↦
         inl (subst (λ z. Contains (kept ++ get_or edges k any ∷ []) z) q (Contains-push kept (get_or edges k any)))
   ]
@@ -148,7 +153,7 @@ module _ {T : Type 0} (fact : T → Type 0) (edges kept : List T) (k : ℕ) (any
   pub others_among : ((d : T) → Contains kept d → Contains edges d) → (d : T) →
       Contains (kept ++ get_or edges k any ∷ []) d →
       Contains edges d
-  others_among before d c = elim (Contains-push_cases kept (get_or edges k any) d c) [
+  others_among before d there = elim (Contains-push_cases kept (get_or edges k any) d there) [
     | inl b ↦ before d b
     | inr q ↦ subst (Contains edges) q (Contains-get_or edges k any within)
   ]
@@ -157,9 +162,9 @@ module _ {T : Type 0} (fact : T → Type 0) (edges kept : List T) (k : ℕ) (any
   pub others_skip : fact (get_or edges k any) → ((d : T) → Contains (take k edges) d → Contains kept d ⊎ fact d) →
       (d : T) → Contains (take (k + 1) edges) d →
       Contains kept d ⊎ fact d
-  others_skip f before d c = elim (one_of d c) [ inl b ↦ before d b | inr q ↦ inr (subst fact q f) ]
+  others_skip f before d there = elim (one_of d there) [ inl b ↦ before d b | inr q ↦ inr (subst fact q f) ]
 
 -- the inputs of process `p` are edges of the graph
 pub inputs_below : (g : Graph) (p : ℕ) → All (λ e. e < edge_count g) (inputs g p)
-inputs_below g p = All-weaker (Contains (inputs g p)) (λ e. e < edge_count g) (λ e k. (inputs_parts g p e k).0)
+inputs_below g p = All-weaker (Contains (inputs g p)) (λ e. e < edge_count g) (λ e there. (inputs_parts g p e there).0)
     (inputs g p) (All-contains_itself (inputs g p))

@@ -42,13 +42,18 @@ pub span_of : (g : Graph) → process_count g ≤ 128 → (p : ℕ) → p < proc
     span.variable ≡ p
     → ((n : ℕ) → n ≤ MOST_FAULTS → get_or span.lengths n 0 ≡ duration g p (min g.faults n)) →
     span.longest ≡ duration g p g.faults → IsSpan g (execution g p) span
-span_of g few p l span is lengths longest = record {
+span_of g few p within span is lengths longest = record {
   enough = λ s n law h k.
       let counted : fault_of s p ≤ n =
-      omega (arith, number_of-fault s p (omega (arith, few, l)), subst (λ v. number_of s v ≤ n) is h) in
-      let most : fault_of s p ≤ min g.faults n = omega (arith, fault_within g few p l s law, counted) in
+      omega (arith, number_of-fault s p (omega (arith, few, within)), subst (λ v. number_of s v ≤ n) is h) in
+      let most : fault_of s p ≤ min g.faults n = omega (arith, fault_within g few p within s law, counted) in
       omega (arith, duration_grows g p (fault_of s p) (min g.faults n) most, lengths n k);
-  longest = λ s law. omega (arith, duration_grows g p (fault_of s p) g.faults (fault_within g few p l s law), longest);
+  longest = λ s law. omega (
+    arith,
+    duration_grows g p (fault_of s p) g.faults
+        (fault_within g few p within s law),
+    longest,
+  );
 }
 
 -- ---- rows
@@ -58,9 +63,9 @@ pub row_at : {lasts : ℕ → Scenario → ℕ} {g : Graph} {tables : List NodeT
     AreSpannedRows lasts g tables rows
     → (x : ℕ) (row : SpannedRow) (list : List SpannedRow) → list ≡ rows.list.items → x < length list →
     row ≡ get_or list x row → IsSpannedRow g tables (lasts x) x row
-row_at {lasts = lasts} {g = g} {tables = tables} {rows = rows} are x row list same l is =
+row_at {lasts = lasts} {g = g} {tables = tables} {rows = rows} are x row list same within is =
     subst (IsSpannedRow g tables (lasts x) x) (sym (is ∙ ap (λ (ys : List SpannedRow). get_or ys x row) same))
-    (are.each x row (omega (arith, l, ap length same)))
+    (are.each x row (omega (arith, within, ap length same)))
 
 -- the list has the rows of the first `n` items (`d` is only the default of `get_or`)
 pub record AreSoFar (lasts : ℕ → Scenario → ℕ) (g : Graph) (tables : List NodeTable) (n : ℕ)
@@ -96,16 +101,18 @@ module _ {g : Graph} {columns : List Column} {tree : PlacesState} (is : IsRowTre
   -- `d` that matches: that is only this column, and none if there is no place
   by_place : (o : Option ℕ) → place_at tree s ≡ o → IfSome o (λ i. fact (column_at columns i)) → (d : Column) →
       Contains columns d → matches d.cube s ≡ true → fact d
-  by_place None e h d c m = absurd (none_matches is s law e d c m)
-  by_place (Some i) e h d c m =
-      let at : column_at columns c.0 ≡ d = get_or_default columns c.0 (record { time = 0; cube = [] }) d c.1 ∙ c.2 in
-      let same : c.0 ≡ i = place_only is s law i c.0 e c.1 (ap (λ (d : Column). matches d.cube s) at ∙ m) in
-      subst fact (ap (column_at columns) (sym same) ∙ at) h
+  by_place None same if_some d there it_matches = absurd (none_matches is s law same d there it_matches)
+  by_place (Some i) same if_some d there it_matches =
+      let at : column_at columns there.0 ≡ d = get_or_default columns there.0
+      (record { time = 0; cube = [] }) d there.1 ∙ there.2 in
+      let alike : there.0 ≡ i = place_only is s law i there.0 same there.1
+      (ap (λ (d : Column). matches d.cube s) at ∙ it_matches) in
+      subst fact (ap (column_at columns) (sym alike) ∙ at) if_some
 
   -- so a fact of the column at the scenario's place is one of each column that matches
   pub each_told : IfSome (place_at tree s) (λ i. fact (column_at columns i)) → (d : Column) → Contains columns d →
       matches d.cube s ≡ true → fact d
-  each_told h = by_place (place_at tree s) refl h
+  each_told if_some = by_place (place_at tree s) refl if_some
 
 -- the span of an item, and a scenario
 module _ {g : Graph} {lasts : Scenario → ℕ} {span : ItemSpan} (is : IsSpan g lasts span)
@@ -119,19 +126,19 @@ module _ {g : Graph} {tables : List NodeTable} {lasts : Scenario → ℕ} {x : �
     (is : IsSpannedRow g tables lasts x row) {s : Scenario} (law : IsScenario g s) where
   -- the item is over by a time, by whichever column it begins, if it would be by its last column, lasting longest
   pub early_over : (time : ℕ) → row.last + row.span.longest ≤ time → IsOverBy tables (lasts s) x time s
-  early_over time h d c m =
+  early_over time at_most d c m =
       let last : d.time ≤ row.last =
       All-contains (λ (d : Column). d.time ≤ row.last) (columns_of tables x) d is.last c in
-      omega (arith, h, last, is.span.longest s law)
+      omega (arith, at_most, last, is.span.longest s law)
 
   -- what begins at `start` and lasts `other` is over by each of its columns, if it would be by the first, lasting
   -- longer
   pub late_over : (start longest other : ℕ) → other ≤ longest → start + longest ≤ row.first → (d : Column) →
       Contains (columns_of tables x) d →
       start + other ≤ d.time
-  late_over start longest other l h d c =
+  late_over start longest other l h d there =
       let first : row.first ≤ d.time =
-      All-contains (λ (d : Column). row.first ≤ d.time) (columns_of tables x) d is.first c in
+      All-contains (λ (d : Column). row.first ≤ d.time) (columns_of tables x) d is.first there in
       omega (arith, l, h, first)
 
   -- the row has a tree
@@ -145,10 +152,11 @@ module _ {g : Graph} {tables : List NodeTable} {lasts : Scenario → ℕ} {x : �
     pub told_over : (time : ℕ) →
         IfSome (place_at tree s) (λ i. IsPast row.span (column_at row.columns.now i).time time s) →
         IsOverBy tables (lasts s) x time s
-    told_over time h d c m = past_over is.span law d.time time
+    told_over time if_some d among it_matches = past_over is.span law d.time time
         (each_told row_tree s law (λ (d : Column). IsPast row.span d.time time s)
         (subst (λ (columns : List Column).
-        IfSome (place_at tree s) (λ i. IsPast row.span (column_at columns i).time time s)) is.columns h) d c m)
+        IfSome (place_at tree s) (λ i. IsPast row.span (column_at columns i).time time s)) is.columns
+        if_some) d among it_matches)
 
     -- the item and another one, which begins at `time`, are apart if they are with the item begun by the column at the
     -- scenario's place
@@ -156,10 +164,11 @@ module _ {g : Graph} {tables : List NodeTable} {lasts : Scenario → ℕ} {x : �
         → IfSome (place_at tree s) (λ i. IsPast row.span (column_at row.columns.now i).time time s ⊎
         IsPast span time (column_at row.columns.now i).time s) →
         IsApartAt tables (lasts s) x (other s) time s
-    told_apart {other = other} {span = span} by time h d c m =
+    told_apart {other = other} {span = span} by time if_some d among it_matches =
         elim (each_told row_tree s law (λ (d : Column). IsPast row.span d.time time s ⊎ IsPast span time d.time s)
         (subst (λ (columns : List Column). IfSome (place_at tree s) (λ i. IsPast row.span
-        (column_at columns i).time time s ⊎ IsPast span time (column_at columns i).time s)) is.columns h) d c m) [
+        (column_at columns i).time time s ⊎ IsPast span time (column_at columns i).time s)) is.columns if_some)
+        d among it_matches) [
           | inl p ↦ inl (past_over is.span law d.time time p)
           | inr p ↦ inr (past_over by law time d.time p)
         ]
@@ -176,13 +185,13 @@ module _ {g : Graph} {tables : List NodeTable} {last : Scenario → ℕ} {x : �
 pub told_at : (fact : Column → Type 0) (columns : List Column) (i : ℕ) (c : Column) → i < length columns →
     c ≡ get_or columns i c → fact c →
     fact (column_at columns i)
-told_at fact columns i c l is h =
-    subst fact (is ∙ sym (get_or_default columns i (record { time = 0; cube = [] }) c l)) h
+told_at fact columns i c within is h =
+    subst fact (is ∙ sym (get_or_default columns i (record { time = 0; cube = [] }) c within)) h
 
 -- a fact `P` of a place, if there is one (`o`), may be replaced by `Q`, which follows from it
 pub told_so : {P Q : ℕ → Type 0} (o : Option ℕ) → IfSome o P → ((i : ℕ) → P i → Q i) → IfSome o Q
-told_so None h f = tt
-told_so (Some i) h f = f i h
+told_so None if_some f = tt
+told_so (Some i) if_some f = f i if_some
 
 -- ---- two trees
 
@@ -204,8 +213,13 @@ module _ {g : Graph} {tables : List NodeTable}
   -- the one is over before the other, if it would be by the other's first time, begun by its last column and lasting
   -- longest
   pub early_before : one.last + one.span.longest ≤ other.first → IsOver lasts g tables y x
-  early_before h s c law here m = early_over is law c.time
-      (omega (arith, h, All-contains (λ (d : Column). other.first ≤ d.time) (columns_of tables x) c by.first here))
+  early_before at_most s c law here m = early_over is law c.time
+      (omega (
+        arith,
+        at_most,
+        All-contains (λ (d : Column). other.first ≤ d.time)
+            (columns_of tables x) c by.first here,
+      ))
 
   -- the one is over before the other, too, if in each scenario it is over, begun by its own column at the scenario's
   -- place, by the time of the other's column at the scenario's place
@@ -213,12 +227,12 @@ module _ {g : Graph} {tables : List NodeTable}
       → ((s : Scenario) → IsScenario g s →
       IfSome (place_at tree s) (λ i. IsOverAt one (column_at other.columns.now i).time (place_at own s) s)) →
       IsOver lasts g tables y x
-  walked_before own tree has there all s c law here m =
+  walked_before own tree has there all s c law here it_matches =
       each_told (its_tree by tree there) s law (λ (c : Column). IsOverBy tables (lasts y s) y c.time s)
       (subst (λ (columns : List Column).
       IfSome (place_at tree s) (λ i. IsOverBy tables (lasts y s) y (column_at columns i).time s)) by.columns
       (told_so (place_at tree s) (all s law) (λ i. over_at is law own has (column_at other.columns.now i).time))) c here
-      m
+      it_matches
 
 -- ---- columns one after another
 
@@ -246,11 +260,11 @@ module _ (lasts : ℕ → Scenario → ℕ) (g : Graph) (tables : List NodeTable
 
   -- an item `y` that is over before item `x` is apart from it
   pub over_apart : (y x : ℕ) → IsOver lasts g tables y x → IsApart lasts g tables y x
-  over_apart y x h s c law here m d at n = inl (h s c law here m d at n)
+  over_apart y x over s c law here m d at n = inl (over s c law here m d at n)
 
   -- an item `y` that `x` is over before is apart from it
   pub apart_over : (y x : ℕ) → IsOver lasts g tables x y → IsApart lasts g tables y x
-  apart_over y x h s c law here m d at n = inr (h s d law at n c here m)
+  apart_over y x over s c law here m d at n = inr (over s d law at n c here m)
 
 -- ---- items between
 
@@ -261,10 +275,10 @@ module _ (g : Graph) (tables : List NodeTable) (present : Holds g tables Rule.Pr
       item_active g s.values (item_at g x) ≡ true →
       (d : Column) × Contains (columns_of tables x) d ×
       (matches d.cube s ≡ true)
-  has_column x l s law active =
+  has_column x within s law active =
       let none : (item_active g s.values (item_at g x)
       && not (list_any (λ (d : Column). matches d.cube s) (columns_of tables x))) ≡ false =
-      present x None s law l in
+      present x None s law within in
       list_any_parts (λ (d : Column). matches d.cube s) (columns_of tables x)
       (shown (item_active g s.values (item_at g x))
       (list_any (λ (d : Column). matches d.cube s) (columns_of tables x)) active none)
@@ -282,11 +296,13 @@ module _ (g : Graph) (tables : List NodeTable) (present : Holds g tables Rule.Pr
     pub before_over : (q r x : ℕ) → r < item_count g → IsUnconditional g r → IsOver lasts g tables q r →
         IsOver lasts g tables r x →
         IsOver lasts g tables q x
-    before_over q r x l always h k s c law here m d at n =
-        let e = has_column r l s law (always s law) in
-        let a : d.time + lasts q s ≤ e.0.time = h s e.0 law e.1 e.2 d at n in
-        let b : e.0.time + lasts r s ≤ c.time = k s c law here m e.0 e.1 e.2 in
-        omega (arith, a, b)
+    before_over q r x within always over is_over s c law here m d at n =
+        let column_between = has_column r within s law (always s law) in
+        let over_first : d.time + lasts q s ≤ column_between.0.time = over s column_between.0 law column_between.1
+        column_between.2 d at n in
+        let over_second : column_between.0.time + lasts r s ≤ c.time = is_over s c law here m column_between.0
+        column_between.1 column_between.2 in
+        omega (arith, over_first, over_second)
 
     -- the step of `are_in_sequence` at `place` of an order: the item at `start`, unless that is 0, is active in every
     -- scenario (`always`), and the items from there on are over before the item at the place (`here`)
@@ -309,9 +325,10 @@ module _ (g : Graph) (tables : List NodeTable) (present : Holds g tables Rule.Pr
       far : ((i j : ℕ) → i < j → j < place → IsOver lasts g tables (get_or items i 0) (get_or items j 0)) → (i : ℕ) →
           i < start →
           IsOver lasts g tables (get_or items i 0) (get_or items place 0)
-      far before i h =
-          let is = always (omega (arith, h)) in
-          before_over (get_or items i 0) (get_or items start 0) (get_or items place 0) is.2 is.1 (before i start h is.0)
+      far before i less =
+          let is = always (omega (arith, less)) in
+          before_over (get_or items i 0) (get_or items start 0) (get_or items place 0) is.2 is.1
+          (before i start less is.0)
           (near start (omega arith) is.0)
 
       -- so if each item at a place `i` is over before each later one, at a place `j` before `place`, this is so up to
@@ -366,8 +383,8 @@ sequence_step rows items place start next b is there here over now = record {
   where
     -- the new start isn't past the next place
     within : (b : Bool) → next ≡ cond b place start → next ≤ place + 1
-    within true e = omega (arith, e)
-    within false e = omega (arith, e, now.within)
+    within true equal = omega (arith, equal)
+    within false equal = omega (arith, equal, now.within)
 
     -- if the new start isn't the first place, its item is before the next place and active in every scenario
     always : (g : Graph) (tables : List NodeTable) (lasts : ℕ → Scenario → ℕ) → AreSpannedRows lasts g tables rows →
@@ -375,16 +392,16 @@ sequence_step rows items place start next b is there here over now = record {
         → (b ≡ true → IsUnconditional g (get_or items place 0) × (get_or items place 0 < item_count g)) →
         (next < place + 1) × IsUnconditional g (get_or items next 0) ×
         (get_or items next 0 < item_count g)
-    always g tables lasts are true e some h = let is = h refl in (
-      omega (arith, e),
-      subst (λ n. IsUnconditional g (get_or items n 0)) (sym e) is.0,
-      subst (λ n. get_or items n 0 < item_count g) (sym e) is.1,
+    always g tables lasts are true same some h = let is = h refl in (
+      omega (arith, same),
+      subst (λ n. IsUnconditional g (get_or items n 0)) (sym same) is.0,
+      subst (λ n. get_or items n 0 < item_count g) (sym same) is.1,
     )
-    always g tables lasts are false e some h =
-        let old = now.always g tables lasts are (omega (arith, e, some)) in (
-          omega (arith, e, old.0),
-          subst (λ n. IsUnconditional g (get_or items n 0)) (sym e) old.1,
-          subst (λ n. get_or items n 0 < item_count g) (sym e) old.2,
+    always g tables lasts are false same some h =
+        let old = now.always g tables lasts are (omega (arith, same, some)) in (
+          omega (arith, same, old.0),
+          subst (λ n. IsUnconditional g (get_or items n 0)) (sym same) old.1,
+          subst (λ n. get_or items n 0 < item_count g) (sym same) old.2,
         )
 
 -- ---- what an order tells
@@ -404,10 +421,10 @@ pub order_at : (lasts : ℕ → Scenario → ℕ) (g : Graph) (tables : List Nod
     (node : ℕ) (order : Vec ℕ Global) →
     All (λ o. IsInSequence lasts g tables o.items) orders
     → list ≡ orders → node < length list → order ≡ get_or list node order → IsInSequence lasts g tables order.items
-order_at lasts g tables orders list node order all same l is =
+order_at lasts g tables orders list node order all same within is =
     subst (λ (o : Vec ℕ Global). IsInSequence lasts g tables o.items)
     (sym (is ∙ ap (λ (os : List (Vec ℕ Global)). get_or os node order) same))
-    (all node order (omega (arith, l, ap length same)))
+    (all node order (omega (arith, within, ap length same)))
 
 -- if each of `orders` has its items in sequence, and so has `order`, each has with `order` at the end of the list
 pub orders_more : (lasts : ℕ → Scenario → ℕ) (g : Graph) (tables : List NodeTable) (orders : List (Vec ℕ Global))
@@ -429,9 +446,9 @@ module _ (lasts : ℕ → Scenario → ℕ) (g : Graph) (tables : List NodeTable
   -- if the next item is left as well, each of the first `i + 1` items is left, or apart from `x`
   pub known_push : (left items : List ℕ) (i : ℕ) → i < length items → All (Known left) (take i items) →
       All (Known (left ++ get_or items i 0 ∷ [])) (take (i + 1) items)
-  known_push left items i l before = All-more (Known (left ++ get_or items i 0 ∷ [])) items i 0 l
+  known_push left items i within before = All-more (Known (left ++ get_or items i 0 ∷ [])) items i 0 within
       (All-weaker (Known left) (Known (left ++ get_or items i 0 ∷ []))
-      (λ y k. elim k [ inl a ↦ inl (Contains-append_left left (get_or items i 0 ∷ []) y a) | inr a ↦ inr a ])
+      (λ y k. elim k [ inl there ↦ inl (Contains-append_left left (get_or items i 0 ∷ []) y there) | inr a ↦ inr a ])
       (take i items) before)
       (inl (Contains-push left (get_or items i 0)))
 

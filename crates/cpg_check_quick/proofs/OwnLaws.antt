@@ -34,7 +34,8 @@ use Rattle.cpg_check_quick.proofs.HeardLaws.{heard_end, heard_sure}
 module _ (g : Graph) (tables : List NodeTable) (rules : AllHold g tables row_rules) (x : ℕ) where
   -- a process that is always over before the item has ended by the item's columns
   pub before_ended : (q : ℕ) → q < process_count g → IsBefore g tables q x → IsEndedBy g tables q x
-  before_ended q l before s c law k m a = over_ended g tables rules s law c.time q l a (before s c law k m)
+  before_ended q within before s c law k m is_active = over_ended g tables rules s law c.time q within
+      is_active (before s c law k m)
 
   -- the item is one of the graph
   module _ (lx : x < item_count g) where
@@ -55,63 +56,66 @@ module _ (g : Graph) (tables : List NodeTable) (rules : AllHold g tables row_rul
           IsSure g tables Rule.Inputs x →
           IsEndedBy g tables q x
       -- the producer is active where the send is, so it has ended, and the process was over by its start
-      earlier_ended formed q l before sure s c law k m a =
-          let p : ℕ = producer g x in
+      earlier_ended formed q within before sure s c law column_there it_matches is_active =
+          let its_producer : ℕ = producer g x in
           let ended =
-          producer_ended sure s c law k m (made g s x lx send (active_where g tables s law x lx rules c k m)) in
-          let d = by_parts tables p s (λ start. start + duration g p (fault_of s p)) c.time ended in
-          over_ended g tables rules s law c.time q l a (λ e h n. let over = before s d.0 law d.1 d.2 e h n in
-          omega (arith, over, d.3))
+          producer_ended sure s c law column_there it_matches
+          (made g s x lx send (active_where g tables s law x lx rules c column_there it_matches)) in
+          let ran = by_parts tables its_producer s
+          (λ start. start + duration g its_producer (fault_of s its_producer)) c.time ended in
+          over_ended g tables rules s law c.time q within is_active
+          (λ e h n. let over = before s ran.0 law ran.1 ran.2 e h n in
+          omega (arith, over, ran.3))
 
     -- a column of the item, and a literal that it implies
-    module _ (few : process_count g ≤ 128) (c : Column) (l : Literal) (k : Contains (columns_of tables x) c)
-        (h : IsToldIn c.cube l) where
+    module _ (few : process_count g ≤ 128) (c : Column) (l : Literal) (there : Contains (columns_of tables x) c)
+        (told : IsToldIn c.cube l) where
       -- where the column matches, the literal's process is active (V1)
       active_here : (s : Scenario) → IsScenario g s → matches c.cube s ≡ true →
           active g s.values (process_of_variable g l.variable) ≡ true
-      active_here s law m = subst (λ v. active g s.values (process_of_variable g v) ≡ true) h.variable
-          (literal_active g tables s law x lx rules c k m h.by h.there)
+      active_here s law it_matches = subst (λ v. active g s.values (process_of_variable g v) ≡ true) told.variable
+          (literal_active g tables s law x lx rules c there it_matches told.by told.there)
 
       -- where the column matches, the literal holds
       holds_here : (s : Scenario) → matches c.cube s ≡ true → holds s l ≡ true
-      holds_here s m =
-          let inside = and_parts _ _ (from_all (holds s) c.cube h.by m h.there) in
-          let from : h.by.low ≤ number_of s l.variable =
-          subst (λ v. h.by.low ≤ number_of s v) h.variable (leb-true _ _ inside.0) in
-          let to : number_of s l.variable ≤ h.by.high =
-          subst (λ v. number_of s v ≤ h.by.high) h.variable (leb-true _ _ inside.1) in
-          and_from _ _ (le-leb l.low (number_of s l.variable) (omega (arith, h.low, from)))
-          (le-leb (number_of s l.variable) l.high (omega (arith, to, h.high)))
+      holds_here s it_matches =
+          let inside = and_parts _ _ (from_all (holds s) c.cube told.by it_matches told.there) in
+          let from : told.by.low ≤ number_of s l.variable =
+          subst (λ v. told.by.low ≤ number_of s v) told.variable (leb-true _ _ inside.0) in
+          let to : number_of s l.variable ≤ told.by.high =
+          subst (λ v. number_of s v ≤ told.by.high) told.variable (leb-true _ _ inside.1) in
+          and_from _ _ (le-leb l.low (number_of s l.variable) (omega (arith, told.low, from)))
+          (le-leb (number_of s l.variable) l.high (omega (arith, to, told.high)))
 
       -- the literal is heard if its process is on the node and has always ended by the item's columns
       pub ended_heard : IsOwnEnded g tables x l.variable → IsHeardIn g tables (home g x) c l
-      ended_heard own s law m =
+      ended_heard own s law it_matches =
           let on : active g s.values own.process ≡ true =
-          ap (active g s.values) (sym own.owner.owner) ∙ active_here s law m in
+          ap (active g s.values) (sym own.owner.owner) ∙ active_here s law it_matches in
           heard_end g tables (home g x) c.time s l own.process few own.owner.within own.near
-          (own.ended s c law k m on) own.owner.known own.owner.owner (holds_here s m)
+          (own.ended s c law there it_matches on) own.owner.known own.owner.owner (holds_here s it_matches)
 
       -- where the column matches, the literal is heard if its process is on the node and over by the column's time
       pub over_heard : (s : Scenario) → IsScenario g s → matches c.cube s ≡ true →
           IsOwnOver g tables (home g x) l.variable c.time s →
           is_heard g.faults (facts g tables (home g x) s c.time) l ≡ true
-      over_heard s law m own =
+      over_heard s law it_matches own =
           let on : active g s.values own.process ≡ true =
-          ap (active g s.values) (sym own.owner.owner) ∙ active_here s law m in
+          ap (active g s.values) (sym own.owner.owner) ∙ active_here s law it_matches in
           heard_end g tables (home g x) c.time s l own.process few own.owner.within own.near
           (over_ended g tables rules s law c.time own.process own.owner.within on own.over) own.owner.known
-          own.owner.owner (holds_here s m)
+          own.owner.owner (holds_here s it_matches)
 
     -- V4 is sure at the item if all literals of its columns are on variables that `known` marks, whose processes have
     -- always ended by then
     pub known_sure : process_count g ≤ 128 → (known : List Bool) → AreOwnEnded g tables x known →
         All (λ (c : Column). All (λ (l : Literal). get_or known l.variable false ≡ true) c.cube) (columns_of tables x) →
         IsSure g tables Rule.Heard x
-    known_sure few known own all = heard_sure g tables x (λ c l k h.
+    known_sure few known own all = heard_sure g tables x (λ c l there h.
         let marked = All-contains (λ (l : Literal). get_or known l.variable false ≡ true) c.cube l
         (All-contains (λ (c : Column). All (λ (l : Literal). get_or known l.variable false ≡ true) c.cube)
-        (columns_of tables x) c all k) h in
-        ended_heard few c l k (record { by = l; there = h; variable = refl; low = omega arith; high = omega arith })
+        (columns_of tables x) c all there) h in
+        ended_heard few c l there (record { by = l; there = h; variable = refl; low = omega arith; high = omega arith })
         (own l.variable marked))
 
     -- a column of the item
@@ -120,8 +124,9 @@ module _ (g : Graph) (tables : List NodeTable) (rules : AllHold g tables row_rul
       pub known_heard : (known : List Bool) → AreOwnEnded g tables x known → (l : Literal) → Contains c.cube l →
           get_or known l.variable false ≡ true →
           IsHeardIn g tables (home g x) c l
-      known_heard known own l h marked = ended_heard few c l k
-          (record { by = l; there = h; variable = refl; low = omega arith; high = omega arith }) (own l.variable marked)
+      known_heard known own l among marked = ended_heard few c l k
+          (record { by = l; there = among; variable = refl; low = omega arith; high = omega arith })
+          (own l.variable marked)
 
       -- the `wanted` literals of column `c` are heard, if the processes of those that are `left` are on the node and
       -- over by the column's time
@@ -130,9 +135,9 @@ module _ (g : Graph) (tables : List NodeTable) (rules : AllHold g tables row_rul
           → ((s : Scenario) → IsScenario g s → matches c.cube s ≡ true →
           All (λ (l : Literal). IsOwnOver g tables (home g x) l.variable c.time s) left)
           → (l : Literal) → Contains wanted l → IsHeardIn g tables (home g x) c l
-      left_heard wanted left wider are over l h = elim (are.heard l h) [
-        | inl kept ↦ λ s law m. over_heard few c l k (wider l h) s law m (All-contains
-            (λ (l : Literal). IsOwnOver g tables (home g x) l.variable c.time s) left l (over s law m) kept)
+      left_heard wanted left wider are over l there = elim (are.heard l there) [
+        | inl kept ↦ λ s law it_matches. over_heard few c l k (wider l there) s law it_matches (All-contains
+            (λ (l : Literal). IsOwnOver g tables (home g x) l.variable c.time s) left l (over s law it_matches) kept)
         | inr heard ↦ heard
       ]
 
@@ -149,6 +154,6 @@ own_more g tables x known k b within before here v t = elim (cases_eq v k) [
 
 -- at first no variable `v` is marked
 pub none_marked : (n v : ℕ) → get_or (replicate n false) v false ≡ true → ⊥
-none_marked zero v t = true≢false (sym t)
-none_marked (suc n) zero t = true≢false (sym t)
-none_marked (suc n) (suc v) t = none_marked n v t
+none_marked zero v holds = true≢false (sym holds)
+none_marked (suc n) zero holds = true≢false (sym holds)
+none_marked (suc n) (suc v) holds = none_marked n v holds

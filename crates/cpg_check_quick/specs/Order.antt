@@ -1,5 +1,5 @@
--- Which items are always over before others begin. What an item begins is an execution, a frame or a send, and lasts as
--- long.
+-- Which items are always over before others begin. An item lasts as long as what it begins: an execution, a frame or a
+-- send.
 use Rattle.std.specs.Prelude.{ℕ, ◌+◌, ◌≡◌, ◌≤◌, ◌<◌, ◌⊎◌, true, List, Contains, length, get_or}
 use Rattle.cpg_base.specs.Bus.{slot_length}
 use Rattle.cpg_base.specs.Graph.{Graph, home}
@@ -9,7 +9,7 @@ use Rattle.cpg_cube.specs.Cube.{matches}
 use Rattle.cpg_table.specs.Table.{NodeTable, columns_of}
 use Rattle.cpg_cube.specs.declared.column.Column.{Column}
 
--- by whichever of its columns matches in scenario `s`, item `y`, which lasts `lasts` time units, is over by `time`
+-- item `y`, which lasts `lasts` time units, is over by `time`, whichever of its columns matches in scenario `s`
 abbrev pub IsOverBy : List NodeTable → ℕ → ℕ → ℕ → Scenario → Type 0
 IsOverBy tables lasts y time s =
     (d : Column) → Contains (columns_of tables y) d → matches d.cube s ≡ true → d.time + lasts ≤ time

@@ -55,6 +55,7 @@ pub record IsSpannedRow (g : Graph) (tables : List NodeTable) (lasts : Scenario 
 
 -- all scenarios of the graph lie in a space
 pub record HasAll (g : Graph) (space : Space) : Type 0 where
+  -- no scenario is left out
   pub lies : (s : Scenario) → IsScenario g s → IsInSpace space s
 
 -- rows of the first items, as many as the list has, and a space of all scenarios

@@ -160,7 +160,7 @@ impl<'a> InputRows<'a> {
             IsFromBefore self.now.admitted.now.graph tables edge process) }
     {
         let problem = self.admitted.problem();
-        // its source is on another node
+        // the input's source is on another node
         if problem.is_message(edge) {
             return false;
         }

@@ -48,11 +48,11 @@ pub idle_found : {g : Graph} {order : List ℕ} {guards : Guards} → IsAdmitted
     (o : Option Scenario)
     → IsFirst g order (λ s. is_left [] cube s && comes_to (tree_of guards p) false s) o →
     IsFirst g order (λ s. matches cube s && not (active g s.values p)) o
-idle_found {g} {order} {guards} a cube p l o f = first_same g order
+idle_found {g} {order} {guards} a cube p within o is_first = first_same g order
     (λ s. is_left [] cube s && comes_to (tree_of guards p) false s) (λ s. matches cube s && not (active g s.values p)) o
     (λ s i. ap (λ b. b && comes_to (tree_of guards p) false s) (sym (with_true (matches cube s) true refl))
     ∙ ap (λ b. matches cube s && b) (same_false (is_active (outcome_at (tree_of guards p) s.values))
-    ∙ ap (λ t. not (is_active t)) ((a.guards.trees p l).is s.values i.values))) f
+    ∙ ap (λ t. not (is_active t)) ((a.guards.trees p within).is s.values i.values))) is_first
 
 -- a cube, and scenarios by an order of processes
 module _ (g : Graph) (order : List ℕ) (cube : List Literal) where
@@ -62,31 +62,32 @@ module _ (g : Graph) (order : List ℕ) (cube : List Literal) where
       ((s : Scenario) → matches part s ≡ (holds s l && matches cube s)) →
       IsFirst g order (matches part) o →
       IsFirst g order (λ s. matches cube s && holds s l) o
-  with_part l part o both f = first_same g order (matches part) (λ s. matches cube s && holds s l) o
-      (λ s _. both s ∙ and_comm (holds s l) (matches cube s)) f
+  with_part l part o both is_first = first_same g order (matches part) (λ s. matches cube s && holds s l) o
+      (λ s _. both s ∙ and_comm (holds s l) (matches cube s)) is_first
 
   -- if in no scenario literal `l` holds and the cube matches, there is none in which the cube matches and the literal
   -- holds
   pub with_none : (l : Literal) → ((s : Scenario) → (holds s l && matches cube s) ≡ false) → (s : Scenario) →
       IsScenario g s →
       (matches cube s && holds s l) ≡ false
-  with_none l none s i = and_comm (matches cube s) (holds s l) ∙ none s
+  with_none l none s lawful = and_comm (matches cube s) (holds s l) ∙ none s
 
   -- if tests `a` and `b` agree in each scenario, the least scenario `o` in which the cube matches and `a` fails is the
   -- least in which it matches and `b` fails
   pub inactive_same : (a b : Scenario → Bool) (o : Option Scenario) → ((s : Scenario) → IsScenario g s → b s ≡ a s) →
       IsFirst g order (λ s. matches cube s && not (a s)) o →
       IsFirst g order (λ s. matches cube s && not (b s)) o
-  inactive_same a b o is f = first_same g order (λ s. matches cube s && not (a s)) (λ s. matches cube s && not (b s)) o
-      (λ s i. ap (λ t. matches cube s && not t) (sym (is s i))) f
+  inactive_same a b o is is_first = first_same g order (λ s. matches cube s
+      && not (a s)) (λ s. matches cube s && not (b s)) o
+      (λ s i. ap (λ t. matches cube s && not t) (sym (is s i))) is_first
 
   -- if test `b` always fails, the least scenario `o` of the cube is the least in which the cube matches and the test
   -- fails
   pub inactive_always : (b : Scenario → Bool) (o : Option Scenario) → ((s : Scenario) → IsScenario g s → b s ≡ false) →
       IsFirst g order (matches cube) o →
       IsFirst g order (λ s. matches cube s && not (b s)) o
-  inactive_always b o off f = first_same g order (matches cube) (λ s. matches cube s && not (b s)) o
-      (λ s i. sym (ap (λ t. matches cube s && not t) (off s i) ∙ sym (with_true (matches cube s) true refl))) f
+  inactive_always b o off is_first = first_same g order (matches cube) (λ s. matches cube s && not (b s)) o
+      (λ s i. sym (ap (λ t. matches cube s && not t) (off s i) ∙ sym (with_true (matches cube s) true refl))) is_first
 
   -- an edge that asks for no value isn't live just where its source isn't active: `whole`, that it is live, is
   -- `source_active` and `passed`, and this is always true
@@ -95,8 +96,8 @@ module _ (g : Graph) (order : List ℕ) (cube : List Literal) where
       ((s : Scenario) → passed s ≡ true)
       → IsFirst g order (λ s. matches cube s && not (source_active s)) o →
       IsFirst g order (λ s. matches cube s && not (whole s)) o
-  unlive_idle source_active passed whole o is all f = inactive_same source_active whole o
-      (λ s i. is s i ∙ ap (λ b. source_active s && b) (all s) ∙ sym (with_true (source_active s) true refl)) f
+  unlive_idle source_active passed whole o is all is_first = inactive_same source_active whole o
+      (λ s i. is s i ∙ ap (λ b. source_active s && b) (all s) ∙ sym (with_true (source_active s) true refl)) is_first
 
   -- an edge that asks for a value isn't live just where its source isn't active or literal `l`, the other value, holds;
   -- so the least such scenario of the cube is the earlier of the least with each of the two
@@ -106,12 +107,12 @@ module _ (g : Graph) (order : List ℕ) (cube : List Literal) where
       → IsFirst g order (λ s. matches cube s && not (source_active s)) a →
       IsFirst g order (λ s. matches cube s && holds s l) b →
       IsFirst g order (λ s. matches cube s && not (whole s)) (earlier g order a b)
-  unlive_either source_active passed whole l a b is other f h = first_same g order
+  unlive_either source_active passed whole l a b is other is_first h = first_same g order
       (λ s. matches cube s && (not (source_active s) || holds s l)) (λ s. matches cube s && not (whole s))
       (earlier g order a b)
       (λ s i. ap (λ t. matches cube s && (not (source_active s) || t)) (other s)
       ∙ ap (λ t. matches cube s && t) (not_both (source_active s) (passed s) ∙ ap not (sym (is s i))))
-      (first_either g order (matches cube) (λ s. not (source_active s)) (λ s. holds s l) a b f h)
+      (first_either g order (matches cube) (λ s. not (source_active s)) (λ s. holds s l) a b is_first h)
 
   -- if item `x` is active just when its source says so, what is answered of the source is an answer for the item
   pub inactive_as : {E : Type 0} (x : ℕ) (source : ItemSource) →

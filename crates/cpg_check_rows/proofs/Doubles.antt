@@ -22,17 +22,19 @@ use Rattle.cpg_check_rows.specs.Single.{is_double}
 -- column is all that is left of the row from there, cut to one
 pub double_at : (columns : List Column) (i : ℕ) (d : Column) (s : Scenario) → i < length columns →
     (matches (get_or columns i d).cube s && breaks_single s (take i columns)) ≡ is_double columns i s
-double_at columns i d s h = sym (or-false (matches (get_or columns i d).cube s && breaks_single s (take i columns)))
+double_at columns i d s within = sym (or-false (matches (get_or columns i d).cube s
+    && breaks_single s (take i columns)))
     ∙ sym (ap (λ l. list_any (λ c. matches c.cube s && breaks_single s (take i columns)) (take 1 l))
-    (drop_more columns i d h))
+    (drop_more columns i d within))
 
 -- at a place `i` past the row's last there is no column, so none that matches together with an earlier one
 pub double_past : (columns : List Column) (i : ℕ) (s : Scenario) → length columns ≤ i → is_double columns i s ≡ false
-double_past columns i s h =
-    ap (λ l. list_any (λ c. matches c.cube s && breaks_single s (take i columns)) (take 1 l)) (drop_all i columns h)
+double_past columns i s at_most =
+    ap (λ l. list_any (λ c. matches c.cube s && breaks_single s (take i columns)) (take 1 l))
+    (drop_all i columns at_most)
 
 -- a column, at place `i` of a row, and places of the row; a default `d`, which isn't taken
-module _ (g : Graph) (order : List ℕ) (columns : List Column) (i : ℕ) (d : Column) (h : i < length columns)
+module _ (g : Graph) (order : List ℕ) (columns : List Column) (i : ℕ) (d : Column) (within : i < length columns)
     (places : List ℕ) where
   -- if each column that ever matches with the one at `i` is among the places, the least scenario in which this one
   -- matches with an earlier one of them is the least in which it breaks V2
@@ -41,9 +43,9 @@ module _ (g : Graph) (order : List ℕ) (columns : List Column) (i : ℕ) (d : C
       matches (column_at columns j).cube s ≡ true → Contains places j)
       → IsFirst g order (λ s. matches (get_or columns i d).cube s && list_any (is_at (take i columns) s) places) o →
       IsFirst g order (is_double columns i) o
-  at_place o among f = first_same g order
+  at_place o among is_first = first_same g order
       (λ s. matches (get_or columns i d).cube s && list_any (is_at (take i columns) s) places) (is_double columns i) o
       (λ s _. same_where (matches (get_or columns i d).cube s) (list_any (is_at (take i columns) s) places)
       (breaks_single s (take i columns))
       (λ m. before_at columns i places s (omega arith) (λ j l n. among s j m l n))
-      ∙ double_at columns i d s h) f
+      ∙ double_at columns i d s within) is_first

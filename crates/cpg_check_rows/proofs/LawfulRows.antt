@@ -35,16 +35,16 @@ rest_of at xs = grind (arith, common_steps)
 -- where literals match scenario `s`, those from place `at` on match, too
 pub matches_from : (literals : List Literal) (at : ℕ) (s : Scenario) → matches literals s ≡ true →
     matches (take (length literals - at) (drop at literals)) s ≡ true
-matches_from literals at s m = subst (λ ls. matches ls s ≡ true) (sym (rest_of at literals))
+matches_from literals at s it_matches = subst (λ ls. matches ls s ≡ true) (sym (rest_of at literals))
     (and_parts (matches (take at literals) s) (matches (drop at literals) s)
     (sym (list_all-append (holds s) (take at literals) (drop at literals))
-    ∙ ap (list_all (holds s)) (take-append-drop at literals) ∙ m)).1
+    ∙ ap (list_all (holds s)) (take-append-drop at literals) ∙ it_matches)).1
 
 -- the process of a variable `v` of the graph is one of the graph's: itself if the variable is how it fails, and the
 -- process of the condition if it is a condition's value
 process_within : (g : Graph) → process_count g ≤ 128 → (v : ℕ) → IsVariable g v →
     process_of_variable g v < process_count g
-process_within g few v (inl l) = subst (λ p. p < process_count g) (of_count g v few l) l
+process_within g few v (inl within) = subst (λ p. p < process_count g) (of_count g v few within) within
 process_within g few v (inr r) =
     subst (λ p. p < process_count g) (of_value g v r.0) (process_of_below g (v - 128) (omega (arith, r.0, r.1)))
 

@@ -46,13 +46,13 @@ module _ (g : Graph) (order : List ℕ) (columns : List Column) where
       (o : Option Scenario)
       → IsFirst g order (λ s. is_left (map (λ (c : Column). c.cube) columns) cube s && active g s.values p) o →
       IsFirst g order (λ s. b s && has_none columns s) o
-  absent_from b p cube is o f =
+  absent_from b p cube is o is_first =
       first_same g order (λ s. is_left (map (λ (c : Column). c.cube) columns) cube s && active g s.values p)
       (λ s. b s && has_none columns s) o
       (λ s i. ap (λ n. (matches cube s && not n) && active g s.values p)
       (any_map (λ b. matches b s) (λ (c : Column). c.cube) columns)
       ∙ turned (active g s.values p) (matches cube s) (not (list_any (λ (d : Column). matches d.cube s) columns))
-      ∙ ap (λ a. a && not (list_any (λ (d : Column). matches d.cube s) columns)) (sym (is s i))) f
+      ∙ ap (λ a. a && not (list_any (λ (d : Column). matches d.cube s) columns)) (sym (is s i))) is_first
 
   -- if item `x` is active just when its source says so, what is answered of the source is an answer for the item
   pub absent_as : {E : Type 0} (x : ℕ) (source : ItemSource) →
@@ -78,9 +78,9 @@ pub live_where : {g : Graph} {order : List ℕ} {guards : Guards} → IsAdmitted
     (cube : List Literal)
     → matches cube s ≡ is_passed (test_of (condition_of g (source g e)) (edge_at g e).when) s.values
     → live g s.values e ≡ (active g s.values (source g e) && matches cube s)
-live_where {g} {order} {guards} a s i e l cube m =
-    live_tested g order a.topological guards a.guards s.values i.values e l
-    ∙ ap (λ t. active g s.values (source g e) && t) (sym m)
+live_where {g} {order} {guards} a s lawful e within cube is =
+    live_tested g order a.topological guards a.guards s.values lawful.values e within
+    ∙ ap (λ t. active g s.values (source g e) && t) (sym is)
 
 -- if no item below `x` breaks V3 and `x` doesn't, none below `x + 1` does: at a column of `x` it is never broken, as V3
 -- asks only whether some column matches
@@ -90,23 +90,23 @@ pub present_more : (g : Graph) (tables : List NodeTable) (x : ℕ) →
     → ((s : Scenario) → IsScenario g s → is_absent g (columns_of tables x) x s ≡ false)
     → (y : ℕ) (column : Option ℕ) (s : Scenario) → y < x + 1 → IsScenario g s →
     breaks Rule.Present g tables s y column ≡ false
-present_more g tables x before here y column s l i = elim (cases_lt y x) [
-  | inl lt ↦ before y column s lt i
+present_more g tables x before here y column s less lawful = elim (cases_lt y x) [
+  | inl lt ↦ before y column s lt lawful
   | inr ge ↦ let same : x ≡ y = omega arith in
       subst (λ z. breaks Rule.Present g tables s z column ≡ false) same (at_item column)
 ]
   where
     -- `x` breaks V3 neither for lack of a column nor at one
     at_item : (column : Option ℕ) → breaks Rule.Present g tables s x column ≡ false
-    at_item None = here s i
+    at_item None = here s lawful
     at_item (Some k) = list_any_false (breaks_at Rule.Present g tables s x (take k (columns_of tables x)))
         (take 1 (drop k (columns_of tables x))) (λ c _. and_right (matches c.cube s) false refl)
 
 -- if `P` holds of `f x` for each element `x` of `xs`, it holds of all elements of the list that `f` makes of them
 pub all_mapped : {X Y : Type 0} (P : Y → Type 0) (f : X → Y) (xs : List X) → All (λ x. P (f x)) xs → All P (map f xs)
-all_mapped P f [] h k d l = absurd (omega arith)
-all_mapped P f (x ∷ xs) h zero d l = h 0 x (omega arith)
-all_mapped P f (x ∷ xs) h (suc k) d l = all_mapped P f xs (λ j e m. h (suc j) e (omega arith)) k d (omega arith)
+all_mapped P f [] all k d l = absurd (omega arith)
+all_mapped P f (x ∷ xs) all zero d l = all 0 x (omega arith)
+all_mapped P f (x ∷ xs) all (suc k) d l = all_mapped P f xs (λ j e m. all (suc j) e (omega arith)) k d (omega arith)
 
 -- the least scenario that cubes leave of a cube and in which the guard of process `p` says active is the least that
 -- they leave of it and in which the process is active
@@ -115,6 +115,6 @@ pub active_found : {g : Graph} {order : List ℕ} {guards : Guards} → IsAdmitt
     (o : Option Scenario)
     → IsFirst g order (λ s. is_left by cube s && comes_to (tree_of guards p) true s) o →
     IsFirst g order (λ s. is_left by cube s && active g s.values p) o
-active_found {g} {order} {guards} a by cube p l o f = first_same g order
+active_found {g} {order} {guards} a by cube p within o is_first = first_same g order
     (λ s. is_left by cube s && comes_to (tree_of guards p) true s) (λ s. is_left by cube s && active g s.values p) o
-    (λ s i. ap (λ b. is_left by cube s && is_active b) ((a.guards.trees p l).is s.values i.values)) f
+    (λ s i. ap (λ b. is_left by cube s && is_active b) ((a.guards.trees p within).is s.values i.values)) is_first

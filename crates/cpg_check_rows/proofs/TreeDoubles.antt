@@ -24,14 +24,15 @@ use Rattle.cpg_check_rows.proofs.Doubles.{double_at, double_past}
 front_as : (columns : List Column) (n i : ℕ) (s : Scenario) → i < n → is_double (take n columns) i s ≡ false →
     is_double columns i s ≡ false
 front_as columns n i s less none = elim (cases_lt i (length columns)) [
-  | inl l ↦
-      let d : Column = record { time = 0; cube = [] } in
-      let here : i < length (take n columns) = omega (arith, l, less, length-take n columns) in
-      sym (double_at columns i d s l)
-      ∙ ap (λ (c : Column). matches c.cube s && breaks_single s (take i columns)) (sym (get_or-take n columns i d less))
-      ∙ ap (λ cs. matches (get_or (take n columns) i d).cube s && breaks_single s cs)
+  | inl within ↦
+      let blank : Column = record { time = 0; cube = [] } in
+      let here : i < length (take n columns) = omega (arith, within, less, length-take n columns) in
+      sym (double_at columns i blank s within)
+      ∙ ap (λ (c : Column). matches c.cube s && breaks_single s (take i columns))
+      (sym (get_or-take n columns i blank less))
+      ∙ ap (λ cs. matches (get_or (take n columns) i blank).cube s && breaks_single s cs)
       (sym (take-take i n columns (omega (arith, less))))
-      ∙ double_at (take n columns) i d s here ∙ none
+      ∙ double_at (take n columns) i blank s here ∙ none
   | inr past ↦ double_past columns i s past
 ]
 
@@ -41,7 +42,8 @@ none_double : (g : Graph) (columns : List Column) (tree : PlacesState) → IsRow
     is_double columns i s ≡ false
 none_double g columns tree is i s law = elim (cases_lt i (length columns)) [
   | inl l ↦ sym (double_at columns i (record { time = 0; cube = [] }) s l) ∙ off_where
-      (matches (column_at columns i).cube s) (breaks_single s (take i columns)) (λ m. none_earlier is s law i l m)
+      (matches (column_at columns i).cube s) (breaks_single s (take i columns))
+      (λ it_matches. none_earlier is s law i l it_matches)
   | inr past ↦ double_past columns i s past
 ]
 

@@ -33,12 +33,12 @@ module _ (g : Graph) (tables : List NodeTable)
   pub single_sure : IsSure g tables Rule.Single x
   single_sure None s law = refl
   single_sure (Some i) s law = elim (cases_lt i (length (columns_of tables x))) [
-    | inl l ↦ ap (λ cs. list_any (breaks_at Rule.Single g tables s x (take i (columns_of tables x))) (take 1 cs))
-        (drop_more (columns_of tables x) i (record { time = 0; cube = [] }) l)
+    | inl within ↦ ap (λ cs. list_any (breaks_at Rule.Single g tables s x (take i (columns_of tables x))) (take 1 cs))
+        (drop_more (columns_of tables x) i (record { time = 0; cube = [] }) within)
         ∙ or-false
         (breaks_at Rule.Single g tables s x (take i (columns_of tables x)) (column_at (columns_of tables x) i))
         ∙ off_where (matches (column_at (columns_of tables x) i).cube s) (list_any (λ (d : Column). matches d.cube s)
-        (take i (columns_of tables x))) (λ m. none_earlier is s law i l m)
+        (take i (columns_of tables x))) (λ it_matches. none_earlier is s law i within it_matches)
     | inr past ↦ ap (λ cs. list_any (breaks_at Rule.Single g tables s x (take i (columns_of tables x))) (take 1 cs))
         (drop_all i (columns_of tables x) past)
   ]
@@ -53,10 +53,10 @@ module _ (g : Graph) (tables : List NodeTable)
     where
       -- without a place the item is inactive, so it needs no column; with a place the column there matches
       go : (o : Option ℕ) → place_at tree s ≡ o → breaks_present g tables s x ≡ false
-      go None e =
-          ap (λ b. b && not (list_any (λ (d : Column). matches d.cube s) (columns_of tables x))) (idle s law e law)
-      go (Some i) e =
-          let there : i < length (columns_of tables x) = place_there is s law i e in
+      go None equal =
+          ap (λ b. b && not (list_any (λ (d : Column). matches d.cube s) (columns_of tables x))) (idle s law equal law)
+      go (Some i) same =
+          let there : i < length (columns_of tables x) = place_there is s law i same in
           -- some column matches: the one at the tree's place
           let some =
           list_any_true (λ (d : Column). matches d.cube s) (columns_of tables x) (column_at (columns_of tables x) i) (
@@ -64,7 +64,7 @@ module _ (g : Graph) (tables : List NodeTable)
             there,
             get_or_default (columns_of tables x) i (column_at (columns_of tables x) i)
                 (record { time = 0; cube = [] }) there,
-          ) (place_matches is s law i e) in
+          ) (place_matches is s law i same) in
           ap (λ b. item_active g s.values (item_at g x) && not b) some
           ∙ and-false (item_active g s.values (item_at g x))
 
@@ -90,5 +90,5 @@ module _ (g : Graph) (tables : List NodeTable) (trees : List (Option PlacesState
       -- by whether there is a tree
       go : (o : Option PlacesState) → IfSome o (IsRowTree g (columns_of tables x)) →
           OnTrue (is_some o) (IsSure g tables Rule.Single x)
-      go None h = tt
-      go (Some tree) h = single_sure g tables x h
+      go None if_some = tt
+      go (Some tree) if_some = single_sure g tables x if_some

@@ -15,7 +15,8 @@ use Rattle.cpg_check_time.specs.Lateness.{IsLeastCount}
 
 -- every execution of process `p`, with however many faults `n`, takes at least one time unit
 pub duration_some : (g : Graph) → IsWithinLimits g → (p n : ℕ) → p < process_count g → 1 ≤ duration g p n
-duration_some g within p n l = let works : 1 ≤ (process_at g p).wcet = (within.processes p _ l).works in omega arith
+duration_some g within p n is_process = let works : 1 ≤ (process_at g p).wcet =
+    (within.processes p _ is_process).works in omega arith
 
 -- if `f` is the first count with which the execution ends after the time, it is the least: with each greater count it
 -- lasts at least as long
@@ -23,8 +24,8 @@ pub first_is_least : (g : Graph) (p start time f : ℕ) → ((n : ℕ) → n < f
     time < start + duration g p f →
     IsLeastCount g p start time f
 first_is_least g p start time f below here = λ n. (
-  λ late. elim (cases_lt n f) [ inl l ↦ absurd (omega (arith, below n l)) | inr m ↦ m ],
-  λ m. omega (arith, here, duration_grows g p f n m),
+  λ late. elim (cases_lt n f) [ inl less ↦ absurd (omega (arith, below n less)) | inr not_less ↦ not_less ],
+  λ at_least. omega (arith, here, duration_grows g p f n at_least),
 )
 
 -- if a cube is on variables of the graph, so is what it is narrowed to by a range of the fault count of process `p`,
@@ -33,7 +34,7 @@ pub part_known : (g : Graph) (p : ℕ) → p < process_count g →
     (cube : List Literal) (low high : ℕ) (o : Option (List Literal)) →
     IsKnown g cube →
     o ≡ with_literal (record { variable = p; low = low; high = high }) cube → IfSome o (IsKnown g)
-part_known g p l cube low high None known is = tt
-part_known g p l cube low high (Some part) known is =
+part_known g p is_process cube low high None known is = tt
+part_known g p is_process cube low high (Some part) known is =
     let literal : Literal = record { variable = p; low = low; high = high } in
-    subst (IsKnown g) (with-is literal cube part (sym is)) (known-narrowed g literal cube (inl l) known)
+    subst (IsKnown g) (with-is literal cube part (sym is)) (known-narrowed g literal cube (inl is_process) known)

@@ -27,9 +27,12 @@ use Rattle.cpg_violation.proofs.Durations.{duration_grows, fault_within}
 -- in a graph within its limits, a node's slot is shorter than 2^40; a node without one has length 0
 pub slot_short : (g : Graph) → IsWithinLimits g → (node : ℕ) → slot_length g node < 2 ^ 40
 slot_short g within node = elim (cases_lt (slot_place g node) (length g.slots)) [
-  | inl l ↦ omega (arith, (within.slots (slot_place g node) (record { node = 0; length = 0; bytes = 0 }) l).length)
-  | inr m ↦ let none : slot_length g node ≡ 0 = ap (λ (s : Slot). s.length)
-      (get_or_past g.slots (slot_place g node) (record { node = 0; length = 0; bytes = 0 }) m) in
+  | inl inside ↦ omega (
+    arith,
+    (within.slots (slot_place g node) (record { node = 0; length = 0; bytes = 0 }) inside).length,
+  )
+  | inr past ↦ let none : slot_length g node ≡ 0 = ap (λ (s : Slot). s.length)
+      (get_or_past g.slots (slot_place g node) (record { node = 0; length = 0; bytes = 0 }) past) in
       omega arith
 ]
 
@@ -37,7 +40,8 @@ slot_short g within node = elim (cases_lt (slot_place g node) (length g.slots)) 
 pub most_faults : (g : Graph) → process_count g ≤ 128 → (p : ℕ) → p < process_count g → (s : Scenario) (time : ℕ) →
     IsScenario g s →
     time + duration g p (fault_of s p) ≤ time + duration g p g.faults
-most_faults g few p l s time i = omega (arith, duration_grows g p (fault_of s p) g.faults (fault_within g few p l s i))
+most_faults g few p is_process s time lawful =
+    omega (arith, duration_grows g p (fault_of s p) g.faults (fault_within g few p is_process s lawful))
 
 -- if a frame of column `c` is there only after the time, the column is late wherever it matches, so the least scenario
 -- that it and the cube match is the answer
@@ -46,34 +50,35 @@ pub slot_first : (g : Graph) (order : List ℕ) (cube : List Literal) (c : Colum
     (o : Option Scenario) →
     IsFirst g order (λ s. matches cube s && matches c.cube s) o
     → IsFirst g order (λ s. matches cube s && (matches c.cube s && nat_lt time (c.time + length))) o
-slot_first g order cube c length time late o f = first_same g order (λ s. matches cube s && matches c.cube s)
+slot_first g order cube c length time late o is_first = first_same g order (λ s. matches cube s && matches c.cube s)
     (λ s. matches cube s && (matches c.cube s && nat_lt time (c.time + length))) o
-    (λ s _. ap (λ b. matches cube s && b) (with_true (matches c.cube s) _ (lt-ltb time (c.time + length) late))) f
+    (λ s _. ap (λ b. matches cube s && b) (with_true (matches c.cube s) _ (lt-ltb time (c.time + length) late)))
+    is_first
 
--- the cube that has to match as well, what the columns begin, and the time by which it should be done
+-- given: the cube that has to match as well, what the columns begin, and the time by which it should be done
 module _ (g : Graph) (cube : List Literal) (delay : Delay) (time : ℕ) where
   -- where `delays` is true, both the cube and the column match
   pub delays_both : (s : Scenario) (d : Column) → delays g cube delay time d s ≡ true →
       (matches cube s ≡ true) × (matches d.cube s ≡ true)
-  delays_both s d t =
-      let p = and_parts (matches cube s) (is_late g delay time d s) t in
-      (p.0, (and_parts (matches d.cube s) (nat_lt time (done_at g s delay d.time)) p.1).0)
+  delays_both s d delayed =
+      let parts = and_parts (matches cube s) (is_late g delay time d s) delayed in
+      (parts.0, (and_parts (matches d.cube s) (nat_lt time (done_at g s delay d.time)) parts.1).0)
 
   -- whether the cube matches may be asked once instead of for each column, so the answer is the same
   pub first_delay : (order : List ℕ) (columns : List Column) (o : Option Scenario) →
       IsFirst g order (λ s. list_any (λ d. delays g cube delay time d s) columns) o →
       IsFirst g order (λ s. matches cube s && list_any (λ d. is_late g delay time d s) columns) o
-  first_delay order columns o f = first_same g order (λ s. list_any (λ d. delays g cube delay time d s) columns)
+  first_delay order columns o is_first = first_same g order (λ s. list_any (λ d. delays g cube delay time d s) columns)
       (λ s. matches cube s && list_any (λ d. is_late g delay time d s) columns) o
-      (λ s _. both_any (matches cube s) (λ d. is_late g delay time d s) columns) f
+      (λ s _. both_any (matches cube s) (λ d. is_late g delay time d s) columns) is_first
 
   -- if no column is after `last`, and what begins then is done by the time even if it takes longest, no column is late
   pub never_delays : (most last : ℕ) → IsMost g delay most → (columns : List Column) →
       All (λ d. d.time ≤ last) columns → last + most ≤ time → (s : Scenario) →
       IsScenario g s →
       (matches cube s && list_any (λ d. is_late g delay time d s) columns) ≡ false
-  never_delays most last is columns all early s i =
-      and_right (matches cube s) _ (list_any_false (λ d. is_late g delay time d s) columns (λ d k.
-      let by : d.time ≤ last = All-contains (λ (d : Column). d.time ≤ last) columns d all k in
-      let done = is s d.time i in
+  never_delays most last is columns all early s lawful =
+      and_right (matches cube s) _ (list_any_false (λ d. is_late g delay time d s) columns (λ d member.
+      let by : d.time ≤ last = All-contains (λ (d : Column). d.time ≤ last) columns d all member in
+      let done = is s d.time lawful in
       and_right (matches d.cube s) _ (le-ltb time (done_at g s delay d.time) (omega arith))))

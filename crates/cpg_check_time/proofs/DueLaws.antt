@@ -13,17 +13,20 @@ use Rattle.cpg_table.specs.declared.rule.Rule.{Rule}
 use Rattle.cpg_check_time.specs.Columns.{breaks_column}
 use Rattle.cpg_check_time.specs.Lateness.{ends_after}
 
--- a process `x`, and a column
-module _ (g : Graph) (order : List ℕ) (tables : List NodeTable) (x : ℕ) (c : Column) (l : x < process_count g) where
+-- given: a process `x`, and a column
+module _ (g : Graph) (order : List ℕ) (tables : List NodeTable) (x : ℕ) (c : Column)
+    (is_process : x < process_count g) where
   -- the column breaks V9 exactly where it matches and its execution ends after the due
   due_is : (s : Scenario) →
       (matches c.cube s && ends_after g x c.time (due g x) s) ≡ breaks_column Rule.Due g tables x c s
-  due_is s = ap (λ b. matches c.cube s && (b && ends_after g x c.time (due g x) s)) (sym (lt-ltb x (process_count g) l))
+  due_is s = ap (λ b. matches c.cube s && (b && ends_after g x c.time (due g x) s))
+      (sym (lt-ltb x (process_count g) is_process))
 
   -- if a part matches exactly there, its least scenario `o` is the least in which column `c` breaks V9
   pub due_first : (part : List Literal) →
       ((s : Scenario) → IsScenario g s → matches part s ≡ (matches c.cube s && ends_after g x c.time (due g x) s)) →
       (o : Option Scenario) →
       IsFirst g order (matches part) o → IsFirst g order (breaks_column Rule.Due g tables x c) o
-  due_first part is o f =
-      first_same g order (matches part) (breaks_column Rule.Due g tables x c) o (λ s i. is s i ∙ due_is s) f
+  due_first part is o is_first =
+      first_same g order (matches part) (breaks_column Rule.Due g tables x c) o
+      (λ s lawful. is s lawful ∙ due_is s) is_first

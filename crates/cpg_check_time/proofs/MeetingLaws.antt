@@ -18,23 +18,23 @@ use Rattle.cpg_cube.specs.Column.{column_at}
 abbrev pub AreFound : List Column → List Column → List ℕ → Type 0
 AreFound columns found places = (i : ℕ) → Contains places i → i < length columns → Contains found (column_at columns i)
 
--- `found` are the columns before the step for place `k` of `places`, and `more` those after it: the column there is
--- added, if there is one
-module _ (columns : List Column) (places : List ℕ) (k d : ℕ) (l : k < length places) (found more : List Column)
+-- given: `found`, the columns before the step for place `k` of `places`, and `more`, those after it: the column at that
+-- place is added, if there is one
+module _ (columns : List Column) (places : List ℕ) (k d : ℕ) (inside : k < length places) (found more : List Column)
     (there : get_or places k d < length columns → more ≡ found ++ column_at columns (get_or places k d) ∷ [])
     (none : length columns ≤ get_or places k d → more ≡ found) where
   -- if `found` has the columns at the first `k` places, `more` has those at one place more
   pub found_more : AreFound columns found (take k places) → AreFound columns more (take (k + 1) places)
-  found_more before i c m = elim (Contains-append_cases (take k places) (get_or places k d ∷ []) i
-      (subst (λ xs. Contains xs i) (take_more places k d l) c)) [
+  found_more before i member i_inside = elim (Contains-append_cases (take k places) (get_or places k d ∷ []) i
+      (subst (λ xs. Contains xs i) (take_more places k d inside) member)) [
         -- a place from before
-        | inl old ↦ elim (cases_lt (get_or places k d) (length columns)) [
+        | inl earlier ↦ elim (cases_lt (get_or places k d) (length columns)) [
           | inl lt ↦ subst (λ xs. Contains xs (column_at columns i)) (sym (there lt)) (Contains-append_left found
-              (column_at columns (get_or places k d) ∷ []) (column_at columns i) (before i old m))
-          | inr ge ↦ subst (λ xs. Contains xs (column_at columns i)) (sym (none ge)) (before i old m)
+              (column_at columns (get_or places k d) ∷ []) (column_at columns i) (before i earlier i_inside))
+          | inr ge ↦ subst (λ xs. Contains xs (column_at columns i)) (sym (none ge)) (before i earlier i_inside)
         ]
         -- the new place
-        | inr new ↦ elim (Contains-cases (get_or places k d) [] i new) [
+        | inr at_next ↦ elim (Contains-cases (get_or places k d) [] i at_next) [
           | inl same ↦
               let lt : get_or places k d < length columns = omega arith in
               subst (λ xs. Contains xs (column_at columns i)) (sym (there lt))
@@ -64,15 +64,17 @@ pub same_found : (columns found : List Column) (places : List ℕ) (cube : List 
     ((c : Column) → test c ≡ true → (matches cube s ≡ true) × (matches c.cube s ≡ true)) →
     list_any test found ≡ list_any test columns
 same_found columns found places cube among all candidates s test both = same_truth _ _
-    (λ t. let r = list_any_parts test found t in
+    (λ passes. let passing = list_any_parts test found passes in
     -- a column that was found is one of the columns
-    list_any_true test columns r.0 (All-contains (λ c. Contains columns c) found r.0 among r.1) r.2)
-    (λ t.
+    list_any_true test columns passing.0
+    (All-contains (λ c. Contains columns c) found passing.0 among passing.1) passing.2)
+    (λ passes.
     -- a column that passes matches together with the cube, so its place is a candidate and it was found
-    let r = list_any_parts test columns t in
-    let c : Column = r.0 in
-    let i : ℕ = r.1.0 in
-    let at : column_at columns i ≡ c = get_or_default columns i (record { time = 0; cube = [] }) c r.1.1 ∙ r.1.2 in
-    let m = both c r.2 in
-    let place = candidates s i r.1.1 (ap (λ (d : Column). matches d.cube s) at ∙ m.1) m.0 in
-    list_any_true test found c (subst (Contains found) at (all i place r.1.1)) r.2)
+    let passing = list_any_parts test columns passes in
+    let column : Column = passing.0 in
+    let index : ℕ = passing.1.0 in
+    let at : column_at columns index ≡ column =
+    get_or_default columns index (record { time = 0; cube = [] }) column passing.1.1 ∙ passing.1.2 in
+    let matched = both column passing.2 in
+    let place = candidates s index passing.1.1 (ap (λ (d : Column). matches d.cube s) at ∙ matched.1) matched.0 in
+    list_any_true test found column (subst (Contains found) at (all index place passing.1.1)) passing.2)

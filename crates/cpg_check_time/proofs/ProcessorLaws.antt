@@ -29,63 +29,64 @@ use Rattle.cpg_check_time.proofs.Seeking.{and_swap, any_at, both_any}
 
 -- ---- two columns
 
--- column `c` of process `p`, and column `d` of process `q`
-module _ (g : Graph) (within : IsWithinLimits g) (p : ℕ) (l : p < process_count g) (c : Column) (q : ℕ)
+-- given: column `c` of process `p`, and column `d` of process `q`
+module _ (g : Graph) (within : IsWithinLimits g) (p : ℕ) (is_process : p < process_count g) (c : Column) (q : ℕ)
     (d : Column) where
   -- if `d` isn't later, the least scenario in which its execution ends after `c` is the least in which the two overlap:
   -- an execution takes some time, so `d` is before the end of the other
   pub overlap_after : d.time ≤ c.time → (order : List ℕ) (o : Option Scenario) →
       IsFirst g order (λ s. matches c.cube s && (matches d.cube s && ends_after g q d.time c.time s)) o →
       IsFirst g order (overlaps g p c q d) o
-  overlap_after first order o f = first_same g order
+  overlap_after first order o is_first = first_same g order
       (λ s. matches c.cube s && (matches d.cube s && ends_after g q d.time c.time s)) (overlaps g p c q d) o
       (λ s _. ap (λ b. matches c.cube s && (matches d.cube s && b))
       (with_true (ends_after g q d.time c.time s) (ltb d.time (c.time + duration g p (fault_of s p)))
       (lt-ltb d.time (c.time + duration g p (fault_of s p))
-      (omega (arith, duration_some g within p (fault_of s p) l))))) f
+      (omega (arith, duration_some g within p (fault_of s p) is_process))))) is_first
 
   -- if `d` is later, the least scenario in which the execution of `c` ends after `d` is the least in which the two
   -- overlap
   pub overlap_before : c.time < d.time → (order : List ℕ) (o : Option Scenario) →
       IsFirst g order (λ s. matches d.cube s && (matches c.cube s && ends_after g p c.time d.time s)) o →
       IsFirst g order (overlaps g p c q d) o
-  overlap_before first order o f = first_same g order
+  overlap_before first order o is_first = first_same g order
       (λ s. matches d.cube s && (matches c.cube s && ends_after g p c.time d.time s)) (overlaps g p c q d) o
       (λ s _. and_swap (matches d.cube s) (matches c.cube s) (ends_after g p c.time d.time s)
       ∙ ap (λ b. matches c.cube s && (matches d.cube s && (b && ends_after g p c.time d.time s)))
-      (sym (lt-ltb c.time (d.time + duration g q (fault_of s q)) (omega arith)))) f
+      (sym (lt-ltb c.time (d.time + duration g q (fault_of s q)) (omega arith)))) is_first
 
   -- where the two overlap, both columns match
   pub overlaps_both : (s : Scenario) → overlaps g p c q d s ≡ true →
       (matches c.cube s ≡ true) × (matches d.cube s ≡ true)
-  overlaps_both s t =
-      let r = and_parts (matches c.cube s) _ t in
-      (r.0, (and_parts (matches d.cube s) _ r.1).0)
+  overlaps_both s overlapping =
+      let parts = and_parts (matches c.cube s) _ overlapping in
+      (parts.0, (and_parts (matches d.cube s) _ parts.1).0)
 
 -- ---- the columns of another process
 
--- column `c` of process `p`, and process `q`
+-- given: column `c` of process `p`, and process `q`
 module _ (g : Graph) (tables : List NodeTable) (p : ℕ) (c : Column) (q : ℕ) where
   -- if `q` is on the same node, the least scenario in which an execution of `q` overlaps that of `c` is the least in
   -- which the two clash
   pub other_node : node_of g q ≡ node_of g p → (order : List ℕ) (o : Option Scenario) →
       IsFirst g order (λ s. list_any (λ d. overlaps g p c q d s) (columns_of tables q)) o →
       IsFirst g order (overlaps_some g tables p c q) o
-  other_node same order o f = first_same g order (λ s. list_any (λ d. overlaps g p c q d s) (columns_of tables q))
+  other_node same order o is_first =
+      first_same g order (λ s. list_any (λ d. overlaps g p c q d s) (columns_of tables q))
       (overlaps_some g tables p c q) o
       (λ s _. sym (ap (λ b. b && list_any (λ d. overlaps g p c q d s) (columns_of tables q))
-      (eq-eqb (node_of g q) (node_of g p) same))) f
+      (eq-eqb (node_of g q) (node_of g p) same))) is_first
 
-  -- a scenario of a graph within limits
-  module _ (few : process_count g ≤ 128) (s : Scenario) (i : IsScenario g s) where
+  -- given: a scenario of a graph of at most 128 processes
+  module _ (few : process_count g ≤ 128) (s : Scenario) (lawful : IsScenario g s) where
     -- if `c`'s execution is over before `q`'s first column even if it lasts longest, none of `q` overlaps it
     pub starts_late : p < process_count g → (first : ℕ) → All (λ d. first ≤ d.time) (columns_of tables q) →
         c.time + duration g p g.faults ≤ first →
         overlaps_some g tables p c q s ≡ false
-    starts_late l first all late = and_right (node_of g q == node_of g p) _
-        (list_any_false (λ d. overlaps g p c q d s) (columns_of tables q) (λ d k.
-        let from : first ≤ d.time = All-contains (λ (d : Column). first ≤ d.time) (columns_of tables q) d all k in
-        let own = duration_grows g p (fault_of s p) g.faults (fault_within g few p l s i) in
+    starts_late p_is first all late = and_right (node_of g q == node_of g p) _
+        (list_any_false (λ d. overlaps g p c q d s) (columns_of tables q) (λ d member.
+        let from : first ≤ d.time = All-contains (λ (d : Column). first ≤ d.time) (columns_of tables q) d all member in
+        let own = duration_grows g p (fault_of s p) g.faults (fault_within g few p p_is s lawful) in
         and_right (matches c.cube s) _ (and_right (matches d.cube s) _
         (and_right (ltb c.time (d.time + duration g q (fault_of s q))) _
         (le-ltb d.time (c.time + duration g p (fault_of s p)) (omega arith))))))
@@ -94,17 +95,18 @@ module _ (g : Graph) (tables : List NodeTable) (p : ℕ) (c : Column) (q : ℕ) 
     pub ends_early : q < process_count g → (last : ℕ) → All (λ d. d.time ≤ last) (columns_of tables q) →
         last + duration g q g.faults ≤ c.time →
         overlaps_some g tables p c q s ≡ false
-    ends_early l last all early = and_right (node_of g q == node_of g p) _
-        (list_any_false (λ d. overlaps g p c q d s) (columns_of tables q) (λ d k.
-        let by : d.time ≤ last = All-contains (λ (d : Column). d.time ≤ last) (columns_of tables q) d all k in
-        let its = duration_grows g q (fault_of s q) g.faults (fault_within g few q l s i) in
+    ends_early q_is last all early = and_right (node_of g q == node_of g p) _
+        (list_any_false (λ d. overlaps g p c q d s) (columns_of tables q) (λ d member.
+        let by : d.time ≤ last = All-contains (λ (d : Column). d.time ≤ last) (columns_of tables q) d all member in
+        let its = duration_grows g q (fault_of s q) g.faults (fault_within g few q q_is s lawful) in
         and_right (matches c.cube s) _ (and_right (matches d.cube s) _
         (and_left _ _ (le-ltb c.time (d.time + duration g q (fault_of s q)) (omega arith))))))
 
 -- ---- the rule
 
--- column `c` of process `p`
-module _ (g : Graph) (order : List ℕ) (tables : List NodeTable) (p : ℕ) (l : p < process_count g) (c : Column) where
+-- given: column `c` of process `p`
+module _ (g : Graph) (order : List ℕ) (tables : List NodeTable) (p : ℕ) (is_process : p < process_count g)
+    (c : Column) where
   -- whether an execution of `q` that starts at `start` overlaps the one that `c` starts
   abbrev at_start : Scenario → ℕ → ℕ → Bool
   at_start s q start = overlap c.time (c.time + duration g p (fault_of s p)) start (start + duration g q (fault_of s q))
@@ -133,11 +135,11 @@ module _ (g : Graph) (order : List ℕ) (tables : List NodeTable) (p : ℕ) (l :
       ∙ ap (λ b. matches c.cube s && b) (sym (any_filter (λ q. list_any (at_start s q) (at tables q s))
       (λ q. node_of g q == node_of g p) (numbers_below p)))
       ∙ sym (ap (λ b. matches c.cube s && (b && list_any (λ q. list_any (at_start s q) (at tables q s))
-      (filter (λ q. node_of g q == node_of g p) (numbers_below p)))) (lt-ltb p (process_count g) l))
+      (filter (λ q. node_of g q == node_of g p) (numbers_below p)))) (lt-ltb p (process_count g) is_process))
 
-  -- so the least scenario in which some lower process clashes with `c` is the least in which `c` breaks V6
+  -- the least scenario in which some lower process clashes with `c` is the least in which `c` breaks V6
   pub first_overlap : (o : Option Scenario) →
       IsFirst g order (λ s. list_any (λ q. overlaps_some g tables p c q s) (numbers_below p)) o →
       IsFirst g order (breaks_column Rule.Processor g tables p c) o
-  first_overlap o f = first_same g order (λ s. list_any (λ q. overlaps_some g tables p c q s) (numbers_below p))
-      (breaks_column Rule.Processor g tables p c) o (λ s _. processor_is s) f
+  first_overlap o is_first = first_same g order (λ s. list_any (λ q. overlaps_some g tables p c q s) (numbers_below p))
+      (breaks_column Rule.Processor g tables p c) o (λ s _. processor_is s) is_first

@@ -38,12 +38,12 @@ pub first_more : {X : Type 0} (g : Graph) (order : List ℕ) (test : X → Scena
     (a b : Option Scenario) →
     IsFirst g order (λ s. list_any (λ x. test x s) (take i xs)) a → IsFirst g order (test (get_or xs i d)) b
     → IsFirst g order (λ s. list_any (λ x. test x s) (take (i + 1) xs)) (earlier g order a b)
-first_more g order test xs i d l a b f h =
+first_more g order test xs i d inside a b first_before first_next =
     first_same g order (λ s. list_any (λ x. test x s) (take i xs) || test (get_or xs i d) s)
     (λ s. list_any (λ x. test x s) (take (i + 1) xs))
     (earlier g order a b)
-    (λ s _. sym (list_any_more (λ x. test x s) xs i d l))
-    (first_or g order (λ s. list_any (λ x. test x s) (take i xs)) (test (get_or xs i d)) a b f h)
+    (λ s _. sym (list_any_more (λ x. test x s) xs i d inside))
+    (first_or g order (λ s. list_any (λ x. test x s) (take i xs)) (test (get_or xs i d)) a b first_before first_next)
 
 -- the least scenario in which one of the first `i + 1` of `xs` passes, each mapped by `f` before it is tested, is the
 -- earlier of `a`, that for the first `i`, and `b`, that for the one at place `i`
@@ -52,12 +52,14 @@ pub first_mapped : {X Y : Type 0} (f : X → Y) (g : Graph) (order : List ℕ) (
     (a b : Option Scenario) →
     IsFirst g order (λ s. list_any (λ y. test y s) (map f (take i xs))) a → IsFirst g order (test (f (get_or xs i d))) b
     → IsFirst g order (λ s. list_any (λ y. test y s) (map f (take (i + 1) xs))) (earlier g order a b)
-first_mapped f g order test xs i d l a b h k = first_same g order (λ s. list_any (λ x. test (f x) s) (take (i + 1) xs))
+first_mapped f g order test xs i d inside a b first_before first_next =
+    first_same g order (λ s. list_any (λ x. test (f x) s) (take (i + 1) xs))
     (λ s. list_any (λ y. test y s) (map f (take (i + 1) xs))) (earlier g order a b)
     (λ s _. sym (any_map (λ y. test y s) f (take (i + 1) xs)))
-    (first_more g order (λ x. test (f x)) xs i d l a b
+    (first_more g order (λ x. test (f x)) xs i d inside a b
     (first_same g order (λ s. list_any (λ y. test y s) (map f (take i xs)))
-    (λ s. list_any (λ x. test (f x) s) (take i xs)) a (λ s _. any_map (λ y. test y s) f (take i xs)) h) k)
+    (λ s. list_any (λ x. test (f x) s) (take i xs)) a (λ s _. any_map (λ y. test y s) f (take i xs)) first_before)
+    first_next)
 
 -- the least scenario in which one of the numbers up to `n` passes is the earlier of `a`, that for the numbers below
 -- `n`, and `b`, that for `n` itself
@@ -65,12 +67,13 @@ pub first_below : (g : Graph) (order : List ℕ) (test : ℕ → Scenario → Bo
     IsFirst g order (λ s. list_any (λ x. test x s) (numbers_below n)) a →
     IsFirst g order (test n) b
     → IsFirst g order (λ s. list_any (λ x. test x s) (numbers_below (n + 1))) (earlier g order a b)
-first_below g order test n a b f h = first_same g order (λ s. list_any (λ x. test x s) (numbers_below n) || test n s)
+first_below g order test n a b first_before first_at =
+    first_same g order (λ s. list_any (λ x. test x s) (numbers_below n) || test n s)
     (λ s. list_any (λ x. test x s) (numbers_below (n + 1))) (earlier g order a b)
     (λ s _.
     sym (ap (list_any (λ x. test x s)) (below_push n) ∙ list_any-append (λ x. test x s) (numbers_below n) (n ∷ []) ∙
     ap (λ b. list_any (λ x. test x s) (numbers_below n) || b) (or-false (test n s))))
-    (first_or g order (λ s. list_any (λ x. test x s) (numbers_below n)) (test n) a b f h)
+    (first_or g order (λ s. list_any (λ x. test x s) (numbers_below n)) (test n) a b first_before first_at)
 
 -- one of the times of item `x` passes a test exactly if one of its columns `d` matches and its time passes
 pub any_at : (tables : List NodeTable) (x : ℕ) (s : Scenario) (test : ℕ → Bool) →

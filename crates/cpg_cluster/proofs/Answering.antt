@@ -10,7 +10,7 @@ use Rattle.cpg_cluster.proofs.Plays.{played_of, whole}
 use Rattle.cpg_cluster.proofs.Reached.{Reached}
 
 -- given a node of a play
-module _ (p : Playing) (is : IsPlaying p) (a : ℕ) (l : a < length p.graph.nodes) where
+module _ (p : Playing) (is : IsPlaying p) (a : ℕ) (within : a < length p.graph.nodes) where
   -- the setting of the play: a well-formed graph, its valid tables and a world
   k : Played p.graph p.tables p.world
   k = played_of p.graph p.tables is.formed is.shape is.valid p.world is.world
@@ -21,11 +21,11 @@ module _ (p : Playing) (is : IsPlaying p) (a : ℕ) (l : a < length p.graph.node
 
   -- a node with the least next instant takes its turn
   least_takes : HasLeastInstant p a → answer p.graph p.cluster a ≡ Took
-  least_takes h = least_took k p.cluster r a h.time l h.comes h.least
+  least_takes h = least_took k p.cluster r a h.time within h.comes h.least
 
   -- a node that is done has done all that is due on it
   done_all : answer p.graph p.cluster a ≡ Done → HasDoneAll p a
-  done_all e acts due = whole k p.cluster r a acts l due e
+  done_all is_done acts due = whole k p.cluster r a acts within due is_done
 
 -- The same for `now`, the play as code sees it, which is p.
 

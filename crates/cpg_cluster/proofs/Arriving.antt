@@ -45,17 +45,17 @@ pub any_index : (time : ℕ) (comes : Option ℕ) (slot other : ℕ) (rows : Lis
     IsIndex rows senders other times →
     list_any (waits_until time comes slot) times
     ≡ list_any (λ w. w) (zip_with (waits_by other time comes slot) rows senders)
-any_index time comes slot other rows senders times i =
-    sym (list_any-IsPermutation (waits_until time comes slot) (arrival_times other rows senders) times i.same) ∙
+any_index time comes slot other rows senders times index_is =
+    sym (list_any-IsPermutation (waits_until time comes slot) (arrival_times other rows senders) times index_is.same) ∙
     any_times time comes slot other rows senders
 
 -- if a frame that arrives at `b` may not be sent any more, neither may one that arrives at `a`, which isn't later
 sent_before : (comes : Option ℕ) (slot a b : ℕ) → a ≤ b →
     list_any (λ u. nat_le (u + slot) b) (option_to_list comes) ≡ false →
     list_any (λ u. nat_le (u + slot) a) (option_to_list comes) ≡ false
-sent_before None slot a b l h = refl
-sent_before (Some u) slot a b l h = ap (λ x. x || false)
-    (lt-leb (u + slot) a (omega (arith, l, leb-false (u + slot) b (or_false (nat_le (u + slot) b) ∙ h))))
+sent_before None slot a b at_most fails = refl
+sent_before (Some u) slot a b at_most fails = ap (λ x. x || false)
+    (lt-leb (u + slot) a (omega (arith, at_most, leb-false (u + slot) b (or_false (nat_le (u + slot) b) ∙ fails))))
   where
     -- `or` with false changes nothing
     or_false : (x : Bool) → x ≡ (x || false)
@@ -66,12 +66,12 @@ sent_before (Some u) slot a b l h = ap (λ x. x || false)
 pub none_sent : (time : ℕ) (comes : Option ℕ) (slot : ℕ) (times : List ℕ) →
     list_any (λ u. nat_le (u + slot) time) (option_to_list comes) ≡ false →
     false ≡ list_any (waits_until time comes slot) times
-none_sent time comes slot times h =
+none_sent time comes slot times fails =
     sym (list_any_none (waits_until time comes slot) times (λ i d l. elim (cases_lt time (get_or times i d)) [
       | inl after ↦ ap (λ b. b && list_any (λ u. nat_le (u + slot) (get_or times i d)) (option_to_list comes))
           (lt-leb (get_or times i d) time after)
       | inr early ↦
-          ap (λ b. nat_le (get_or times i d) time && b) (sent_before comes slot (get_or times i d) time early h)
+          ap (λ b. nat_le (get_or times i d) time && b) (sent_before comes slot (get_or times i d) time early fails)
           ∙ and_right (nat_le (get_or times i d) time) false refl
     ]))
 
@@ -93,7 +93,7 @@ pub last_until : (time : ℕ) (comes : Option ℕ) (slot : ℕ) (times : List �
     ((i d : ℕ) → place + 1 ≤ i → i < length times → time < get_or times i d) →
     ((d : ℕ) → get_or times place d ≡ x) →
     list_any (λ u. nat_le (u + slot) x) (option_to_list comes) ≡ list_any (waits_until time comes slot) times
-last_until time comes slot times place x rises l before past is =
+last_until time comes slot times place x rises within before past is =
     go (list_any (λ u. nat_le (u + slot) x) (option_to_list comes)) refl
   where
     -- whether something that arrives at a time may still be sent
@@ -108,13 +108,13 @@ last_until time comes slot times place x rises l before past is =
 
     -- by whether the frame of the last arrival may still be sent
     go : (b : Bool) → list_any (λ u. nat_le (u + slot) x) (option_to_list comes) ≡ b → b ≡ list_any p times
-    go true e = sym (list_any_at p times place x l (here ∙ e))
-    go false e = sym (list_any_none p times (λ i d k. elim (cases_lt place i) [
+    go true equal = sym (list_any_at p times place x within (here ∙ equal))
+    go false same = sym (list_any_none p times (λ i d k. elim (cases_lt place i) [
       | inl after ↦ ap (λ b. b && list_any (λ u. nat_le (u + slot) (get_or times i d)) (option_to_list comes))
           (lt-leb (get_or times i d) time (past i d (omega arith) k))
       | inr early ↦ ap (λ b. nat_le (get_or times i d) time && b)
-          (sent_before comes slot (get_or times i d) (get_or times place d) (rises i place d (omega arith) l)
-          (subst (λ t. list_any (λ u. nat_le (u + slot) t) (option_to_list comes) ≡ false) (sym (is d)) e))
+          (sent_before comes slot (get_or times i d) (get_or times place d) (rises i place d (omega arith) within)
+          (subst (λ t. list_any (λ u. nat_le (u + slot) t) (option_to_list comes) ≡ false) (sym (is d)) same))
           ∙ and_right (nat_le (get_or times i d) time) false refl
     ]))
 
@@ -124,13 +124,13 @@ pub index_more : (rows : List Row) (senders : List ℕ) (n : ℕ) (index : List 
     AreIndexed rows senders n index →
     IsIndex rows senders n v.items →
     AreIndexed rows senders (n + 1) (index ++ v ∷ [])
-index_more rows senders n index v a o = record {
-  count = omega (arith, length-append index (v ∷ []), a.count);
+index_more rows senders n index v indexed index_is = record {
+  count = omega (arith, length-append index (v ∷ []), indexed.count);
   each = λ i d l. elim (cases_eq i n) [
     | inl e ↦ subst (λ i. IsIndex rows senders i (get_or (index ++ v ∷ []) i d).items) (sym e)
-        (subst (λ (v : Vec ℕ). IsIndex rows senders n v.items) (sym (get_or_push index v d n a.count)) o)
+        (subst (λ (v : Vec ℕ). IsIndex rows senders n v.items) (sym (get_or_push index v d n indexed.count)) index_is)
     | inr ne ↦ subst (λ (v : Vec ℕ). IsIndex rows senders i v.items)
-        (sym (get_or_append_left index (v ∷ []) d i (omega (arith, a.count)))) (a.each i d (omega arith))
+        (sym (get_or_append_left index (v ∷ []) d i (omega (arith, indexed.count)))) (indexed.each i d (omega arith))
   ];
 }
 
@@ -140,5 +140,5 @@ pub index_at : (rows : List Row) (senders : List ℕ) (n : ℕ) (index : List (V
     AreIndexed rows senders n index → b < n →
     v ≡ get_or index b v →
     seen ≡ v.items → IsIndex rows senders b seen
-index_at rows senders n index b v seen a l e s =
-    subst (IsIndex rows senders b) (sym (s ∙ ap (λ (v : Vec ℕ). v.items) e)) (a.each b v l)
+index_at rows senders n index b v seen indexed less e s =
+    subst (IsIndex rows senders b) (sym (s ∙ ap (λ (v : Vec ℕ). v.items) e)) (indexed.each b v less)

@@ -11,7 +11,7 @@ use Rattle.cpg_cluster.specs.Cluster.{Took, Waits, answer_by}
 
 -- if option `o` has value `x`, what holds of its value holds of `x`
 pub at_some : {X : Type 0} (o : Option X) (x : X) (P : X → Type 0) → o ≡ Some x → IfSome o P → P x
-at_some o x P e h = subst (λ o. IfSome o P) e h
+at_some o x P is if_some = subst (λ o. IfSome o P) is if_some
 
 -- if `i` is the first of the `n` numbers from `a` on that passes test `p`, the answer is to wait on `i`; by induction
 -- on the range
@@ -30,12 +30,13 @@ first_from p a (suc n) i l m none is = elim (cases_eq a i) [
 -- if `i` is the first of the numbers below `n` that passes test `p`, the answer is to wait on `i`
 pub first_waits : (p : ℕ → Bool) (n i : ℕ) → i < n → ((j : ℕ) → j < i → p j ≡ false) → p i ≡ true →
     Waits i ≡ answer_by (filter p (numbers_below n))
-first_waits p n i l none is = sym (first_from p 0 n i (omega arith) (omega arith) (λ j _ h. none j h) is)
+first_waits p n i less none is = sym (first_from p 0 n i (omega arith) (omega arith) (λ j _ h. none j h) is)
 
 -- if no number below `n` passes test `p`, the answer is a turn
 pub none_waits : (p : ℕ → Bool) (n : ℕ) → ((j : ℕ) → j < n → p j ≡ false) →
     Took ≡ answer_by (filter p (numbers_below n))
-none_waits p n none = sym (ap answer_by (filter_none p (numbers_below n) (λ j c. none j (numbers-Contains n j c))))
+none_waits p n none = sym (ap answer_by
+    (filter_none p (numbers_below n) (λ j there. none j (numbers-Contains n j there))))
 
 -- what was added to a list is what comes from the old length on
 pub tail_of : {X : Type 0} (old rs : List X) →

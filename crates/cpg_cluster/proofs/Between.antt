@@ -38,32 +38,33 @@ flat_id f (x ∷ xs) = ap (λ l. f x ++ l) (flat_id f xs)
 -- the dispatcher of node `b` is that of member `b`; the default `d` isn't read
 pub dispatcher_is : (ms : List Member) (b : ℕ) (d : Member) → b < length ms →
     dispatcher_at (cluster_of ms) b ≡ (get_or ms b d).node.dispatcher
-dispatcher_is ms b d l = get_or-map (λ (m : Member). m.node.dispatcher) ms b d _ l
+dispatcher_is ms b d within = get_or-map (λ (m : Member). m.node.dispatcher) ms b d _ within
 
 -- given one of the members of a cluster, each of which keeps what it should
 module _ (g : Graph) (ms : List Member) (fits : AllFit g ms) (a : ℕ) (m : Member)
-    (here : (d : Member) → get_or ms a d ≡ m) (l : a < length ms) where
+    (here : (d : Member) → get_or ms a d ≡ m) (within : a < length ms) where
   -- the member's list of senders has the home of each row that it hears
   senders_are : m.senders.items ≡ map (λ (row : Row). home g row.item) m.node.dispatcher.table.hears
   senders_are =
       subst (λ (m : Member). m.senders.items ≡ map (λ (row : Row). home g row.item) m.node.dispatcher.table.hears)
-      (here m) (fits a m l).senders
+      (here m) (fits a m within).senders
 
   -- the member's own table is that of its dispatcher in the cluster
   table_is : (dispatcher_at (cluster_of ms) a).table ≡ m.node.dispatcher.table
-  table_is = ap (λ (d : Dispatcher). d.table) (dispatcher_is ms a m l ∙ ap (λ (m : Member). m.node.dispatcher) (here m))
+  table_is = ap (λ (d : Dispatcher). d.table) (dispatcher_is ms a m within
+      ∙ ap (λ (m : Member). m.node.dispatcher) (here m))
 
   -- By the members, node `a` waits on node `b` exactly if it does by the state: member `b` has the next instant and the
   -- slot length of its node, and member `a` the hear rows of its node with their senders.
   waits_is : (time b : ℕ) (d : Member) → b < length ms →
       waits_between time m b (get_or ms b d) ≡ waits_on g (cluster_of ms) a time b
-  waits_is time b d k =
-      let o = get_or ms b d in
+  waits_is time b d inside =
+      let other = get_or ms b d in
       ap (λ ss. list_any (λ w. w)
-      (zip_with (waits_by b time (next o.node.dispatcher) o.slot) m.node.dispatcher.table.hears ss)) senders_are
-      ∙ ap (list_any (λ w. w)) (zip_with-map (waits_by b time (next o.node.dispatcher) o.slot)
+      (zip_with (waits_by b time (next other.node.dispatcher) other.slot) m.node.dispatcher.table.hears ss)) senders_are
+      ∙ ap (list_any (λ w. w)) (zip_with-map (waits_by b time (next other.node.dispatcher) other.slot)
       (λ (row : Row). home g row.item) m.node.dispatcher.table.hears)
-      ∙ any_map (λ (row : Row). waits_by b time (next o.node.dispatcher) o.slot row (home g row.item))
+      ∙ any_map (λ (row : Row). waits_by b time (next other.node.dispatcher) other.slot row (home g row.item))
       m.node.dispatcher.table.hears
       ∙ (λ i. list_any (λ (row : Row). (home g row.item == b) && list_any (λ (col : Column).
       nat_le col.time time && list_any (λ u. nat_le (u + slot i) col.time) (option_to_list (comes i)))
@@ -71,11 +72,11 @@ module _ (g : Graph) (ms : List Member) (fits : AllFit g ms) (a : ℕ) (m : Memb
     where
       -- the member at b knows the length of its node's slot
       slot : (get_or ms b d).slot ≡ slot_length g b
-      slot = (fits b d k).slot
+      slot = (fits b d inside).slot
 
       -- its next instant is that of its dispatcher
       comes : next (get_or ms b d).node.dispatcher ≡ next (dispatcher_at (cluster_of ms) b)
-      comes = sym (ap next (dispatcher_is ms b d k))
+      comes = sym (ap next (dispatcher_is ms b d inside))
 
       -- the rows that the member hears are those of its dispatcher
       rows : m.node.dispatcher.table.hears ≡ (dispatcher_at (cluster_of ms) a).table.hears
@@ -87,7 +88,7 @@ module _ (g : Graph) (ms : List Member) (fits : AllFit g ms) (a : ℕ) (m : Memb
       ≡ answer_by (filter (waits_on g (cluster_of ms) a time) (numbers_below (length (cluster_of ms).nodes)))
   answer_is time d = ap answer_by (same_filter (λ b. waits_between time m b (get_or ms b d))
       (waits_on g (cluster_of ms) a time) (numbers_below (length ms))
-      (λ b c. waits_is time b d (numbers-Contains (length ms) b c))
+      (λ b there. waits_is time b d (numbers-Contains (length ms) b there))
       ∙ ap (λ n. filter (waits_on g (cluster_of ms) a time) (numbers_below n))
       (sym (length-map ms (λ (m : Member). m.node.dispatcher))))
 
@@ -126,13 +127,13 @@ module _ (g : Graph) (ms : List Member) (fits : AllFit g ms) (a : ℕ) (m : Memb
         -- the acts of the row's sender are those of the cluster
         sent : home g row.item < length ms →
             (get_or ms (home g row.item) m).acts.items ≡ get_or (cluster_of ms).acts (home g row.item) []
-        sent k = sym (get_or-map (λ (m : Member). m.acts.items) ms (home g row.item) m [] k)
+        sent less = sym (get_or-map (λ (m : Member). m.acts.items) ms (home g row.item) m [] less)
 
     -- by the members, the frames that arrive at the time are those by the state
     pub frames_are : (d : Dispatcher) → d.table ≡ m.node.dispatcher.table →
         frames_by g w.scenario.values ms time m.node.dispatcher.table.hears m.senders.items
         ≡ frames_now g w (cluster_of ms) d time
-    frames_are d t =
+    frames_are d is =
         let hears = m.node.dispatcher.table.hears in
         ap (λ ss. flat_map (λ fs. fs) (zip_with (frames_of_sender g w.scenario.values ms time) hears ss)) senders_are
         ∙ ap (flat_map (λ fs. fs))
@@ -140,4 +141,4 @@ module _ (g : Graph) (ms : List Member) (fits : AllFit g ms) (a : ℕ) (m : Memb
         ∙ flat_id (λ (row : Row). frames_of_sender g w.scenario.values ms time row (home g row.item)) hears
         ∙ same_flat_map (λ (row : Row). frames_of_sender g w.scenario.values ms time row (home g row.item))
         (frames_of_row g w (cluster_of ms) time) hears (λ row _. row_frames row)
-        ∙ sym (ap (λ t. flat_map (frames_of_row g w (cluster_of ms) time) t.hears) t)
+        ∙ sym (ap (λ t. flat_map (frames_of_row g w (cluster_of ms) time) t.hears) is)

@@ -55,10 +55,11 @@ own_rise g node = mapped (processes_on g node) (Rises-filter (λ x y. x < y) (λ
   where
     -- so they do with what the node knows of each; by induction on `ps`
     mapped : (ps : List ℕ) → Rises (λ x y. x < y) ps → DoRise (map (own_process g) ps)
-    mapped [] h = tt
-    mapped (p ∷ ps) h = (
-      λ o m. let q = Contains-map_parts (own_process g) ps o m in subst (λ (o : Own). p < o.process) q.2 (h.0 q.0 q.1),
-      mapped ps h.1,
+    mapped [] rising = tt
+    mapped (p ∷ ps) rising = (
+      λ own there. let process = Contains-map_parts (own_process g) ps own there in
+          subst (λ (o : Own). p < o.process) process.2 (rising.0 process.0 process.1),
+      mapped ps rising.1,
     )
 
 -- A turn leaves a node fewer instants. Its processes are few, rise, and may each end at few times, which is what
@@ -83,15 +84,15 @@ HasFew d = (length d.table.own ≤ 128) × HaveFewEnds d.table.own
 most_of : (ds : List Dispatcher) → All HasFew ds →
     sum_by instants_left ds ≤ sum_by (λ (t : NodeTable). column_count (rows_of t))
     (map (λ (d : Dispatcher). d.table) ds) * 10 + length ds * 1153
-most_of [] h = omega arith
-most_of (d ∷ ds) h =
-    let here = All-head HasFew d ds h in
+most_of [] all = omega arith
+most_of (d ∷ ds) all =
+    let here = All-head HasFew d ds all in
     omega (
       arith,
       sum_by-cons instants_left d ds,
       sum_by-cons (λ (t : NodeTable). column_count (rows_of t)) d.table (map (λ (d : Dispatcher). d.table) ds),
       most_instants d here.0 here.1,
-      most_of ds (All-tail HasFew d ds h),
+      most_of ds (All-tail HasFew d ds all),
     )
 
 -- All nodes together have at most 5,261,328 instants left: 10 for each of 524,288 columns, and 1153 for each of 16

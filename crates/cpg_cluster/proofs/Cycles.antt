@@ -83,12 +83,12 @@ record Hearer (g : Graph) (x : ℕ) : Type 0 where
 -- Each item `x` that is sent is heard by some node: a message by the node of its target, a broadcast by each node but
 -- its own, and there are two nodes at least.
 hearer : (g : Graph) → WellFormed g → (x : ℕ) → x < item_count g → is_sent g x ≡ true → Hearer g x
-hearer g f x l sent = elim (item_cases g x l) [
+hearer g formed x inside sent = elim (item_cases g x inside) [
   | inl q ↦ absurd (not_both g x q.0 sent)
   -- a message is heard by the node of its target
   | inr (inl q) ↦ record {
     node = node_of g (target g q.0);
-    within = f.nodes (target g q.0) (f.targets q.0 q.1);
+    within = formed.nodes (target g q.0) (formed.targets q.0 q.1);
     hears = ap (is_heard_by g (node_of g (target g q.0))) q.3
         ∙ and_from _ _ (sym (ap (is_sent_item g) q.3) ∙ sent) (eq-eqb _ _ refl);
   }
@@ -119,67 +119,78 @@ lesser deadline None = omega arith
 lesser deadline (Some own) = omega arith
 
 -- given a play of valid tables and the time of a cycle
-module _ {g : Graph} {tables : List NodeTable} {w : World} (k : Played g tables w) (time : ℕ)
+module _ {g : Graph} {tables : List NodeTable} {w : World} (is_played : Played g tables w) (time : ℕ)
     (cycle : IsCycle g tables time) where
   -- the frame of column `c` of item `x`, which is sent, arrives by the cycle time: some node hears it, so its arrival
   -- isn't after the last one
   arrives : (x : ℕ) (c : Column) → x < item_count g → is_sent g x ≡ true → Contains (columns_of tables x) c →
       c.time + slot_length g (home g x) ≤ time
-  arrives x c l sent m =
-      let h = hearer g k.setting.formed x l sent in
-      let row = hear_row_in k h.node h.within [] None x l h.hears in
-      let here : Contains (times_in (table_at tables h.node).hears) (c.time + slot_length g (home g x)) =
-      Contains-flat_map (λ (row : Row). map (λ (c : Column). c.time) row.columns) (table_at tables h.node).hears
+  arrives x c within sent there =
+      let hears = hearer g is_played.setting.formed x within sent in
+      let row = hear_row_in is_played hears.node hears.within [] None x within hears.hears in
+      let here : Contains (times_in (table_at tables hears.node).hears) (c.time + slot_length g (home g x)) =
+      Contains-flat_map (λ (row : Row). map (λ (c : Column). c.time) row.columns) (table_at tables hears.node).hears
       (hear_row g tables x) (c.time + slot_length g (home g x)) row
       (Contains-map (λ (c : Column). c.time) (hear_row g tables x).columns (later_by (slot_length g (home g x)) c)
-      (Contains-map (later_by (slot_length g (home g x))) (columns_of tables x) c m)) in
-      let all = Contains-flat_map (λ (t : NodeTable). times_in t.hears) tables (table_at tables h.node)
+      (Contains-map (later_by (slot_length g (home g x))) (columns_of tables x) c there)) in
+      let all = Contains-flat_map (λ (t : NodeTable). times_in t.hears) tables (table_at tables hears.node)
       (c.time + slot_length g (home g x))
-      (Contains-get_or tables h.node empty_table (omega (arith, k.setting.shape.count, h.within))) here in
+      (Contains-get_or tables hears.node empty_table
+      (omega (arith, is_played.setting.shape.count, hears.within))) here in
       omega (arith, greatest_above _ (c.time + slot_length g (home g x)) all, cycle.arrivals)
 
   -- the planned end of the execution of process `p` that column `c` starts is within the cycle, as it is by the due,
   -- and this by the deadline
   planned_end : (p : ℕ) (c : Column) → Match tables w.scenario p c → p < process_count g →
       c.time + duration g p (fault_of w.scenario p) ≤ time
-  planned_end p c m l =
-      omega (arith, match_due k.setting p c m l, lesser g.deadline (process_at g p).deadline, cycle.deadline)
+  planned_end p c matching within =
+      omega (
+        arith,
+        match_due is_played.setting p c matching within,
+        lesser g.deadline (process_at g p).deadline,
+        cycle.deadline,
+      )
 
   -- a process of a node is one of the graph
   known : (node p : ℕ) → Contains (processes_on g node) p → p < process_count g
-  known node p m = numbers-Contains (process_count g) p
-      (Contains-filter_parts (λ p. node_of g p == node) (numbers_below (process_count g)) p m).0
+  known node p there = numbers-Contains (process_count g) p
+      (Contains-filter_parts (λ p. node_of g p == node) (numbers_below (process_count g)) p there).0
 
   -- In every state of a play all that nodes have done is over by the cycle time. Each start, send, end and report comes
   -- from a column that matches: `planned_end` bounds starts, ends and reports, and `arrives` bounds sends.
   pub over : (turns : List ℕ) → IsOverBy g w.scenario (play g w (initial_cluster g tables) turns) time
   over turns =
-      let c : Cluster = play g w (initial_cluster g tables) turns in
-      let played : IsPlayed g tables w c = record { turns = turns; is = refl } in
+      let state : Cluster = play g w (initial_cluster g tables) turns in
+      let played : IsPlayed g tables w state = record { turns = turns; is = refl } in
       record {
         -- a start is over with its planned end
-        starts = λ node a l m p. let q = ((reached k turns).holds node l).done.only a m in
-            omega (arith, planned_end a.item q.0.column (asked_match q.0) p, q.0.time);
+        starts = λ node a l m within. let act = ((reached is_played turns).holds node l).done.only a m in
+            omega (arith, planned_end a.item act.0.column (asked_match act.0) within, act.0.time);
         -- a send of this kind has arrived with its slot
-        sends = λ node a l m p. let q = ((reached k turns).holds node l).done.only a m in
+        sends = λ node a l m p. let act = ((reached is_played turns).holds node l).done.only a m in
             omega (
               arith,
-              arrives a.item q.0.column q.0.row.within (elim q.0.row.kind [
+              arrives a.item act.0.column act.0.row.within (elim act.0.row.kind [
                 | inl less ↦ absurd (omega (arith, less, p))
                 | inr e ↦ e
-              ]) (asked_match q.0).there,
-              q.0.time,
+              ]) (asked_match act.0).there,
+              act.0.time,
             );
         -- an end is a planned one
-        ends = λ node e l m. let q = ((ended_by k c played node l).only e m).0 in
-            omega (arith, planned_end q.process q.column q.match (known node q.process q.on), q.time);
-        -- a report comes by the planned end, since no execution takes longer than planned
-        reports = λ node e l m. let q = (((reports_hold k c played).each node l).only e m).0 in
+        ends = λ node e l m. let ending = ((ended_by is_played state played node l).only e m).0 in
             omega (
               arith,
-              planned_end q.process q.column q.match (known node q.process q.on),
-              (k.world.lengths q.process (known node q.process q.on)).1,
-              q.time,
+              planned_end ending.process ending.column ending.match
+                  (known node ending.process ending.on),
+              ending.time,
+            );
+        -- a report comes by the planned end, since no execution takes longer than planned
+        reports = λ node e l m. let report = (((reports_hold is_played state played).each node l).only e m).0 in
+            omega (
+              arith,
+              planned_end report.process report.column report.match (known node report.process report.on),
+              (is_played.world.lengths report.process (known node report.process report.on)).1,
+              report.time,
             );
       }
 
@@ -192,9 +203,9 @@ cycles_hold_all g tables time f h v cycle w turns is = over (played_of g tables 
 -- the length of slot `n` and those of the slots before it are together at most the length of all slots, the round
 front_sum : (slots : List Slot) (n : ℕ) (d : Slot) → n < length slots →
     sum_by (λ (s : Slot). s.length) (take n slots) + (get_or slots n d).length ≤ sum_by (λ (s : Slot). s.length) slots
-front_sum [] n d l = absurd (omega arith)
-front_sum (s ∷ slots) zero d l = omega (arith, sum_by-cons (λ (s : Slot). s.length) s slots)
-front_sum (s ∷ slots) (suc n) d l = omega (
+front_sum [] n d within = absurd (omega arith)
+front_sum (s ∷ slots) zero d within = omega (arith, sum_by-cons (λ (s : Slot). s.length) s slots)
+front_sum (s ∷ slots) (suc n) d within = omega (
   arith,
   sum_by-cons (λ (s : Slot). s.length) s slots,
   sum_by-cons (λ (s : Slot). s.length) s (take n slots),
@@ -203,9 +214,10 @@ front_sum (s ∷ slots) (suc n) d l = omega (
 
 -- if `b * r + off`, where `off` is below `r`, is `t` more than `a * r`, then `a` is at most `b`
 fewer_rounds : (a b r off t : ℕ) → off < r → a * r + t ≡ b * r + off → a ≤ b
-fewer_rounds a b r off t l e = elim (cases_lt b a) [
+fewer_rounds a b r off t less is = elim (cases_lt b a) [
   | inr le ↦ le
-  | inl lt ↦ absurd (let m : suc b * r ≤ a * r = mul-le-mul_right r lt in omega (arith, m, l, e))
+  | inl lt ↦ absurd (let more_rounds : suc b * r ≤ a * r = mul-le-mul_right r lt in
+      omega (arith, more_rounds, less, is))
 ]
 
 -- The occurrences of a node's slot have the same times in every cycle, counted from its begin. The cycle begins after a
@@ -235,9 +247,9 @@ same_slots g tables time cycle node f c has = record {
     -- the slot begins within its round
     inside : offset g node < round g
     inside =
-        let l = slot_place-lt g node has in
-        let one = f.slot_lengths (slot_place g node) (record { node = 0; length = 0; bytes = 0 }) l in
-        omega (arith, front_sum g.slots (slot_place g node) (record { node = 0; length = 0; bytes = 0 }) l, one)
+        let within = slot_place-lt g node has in
+        let one = f.slot_lengths (slot_place g node) (record { node = 0; length = 0; bytes = 0 }) within in
+        omega (arith, front_sum g.slots (slot_place g node) (record { node = 0; length = 0; bytes = 0 }) within, one)
 
     -- the cycle begins with a round
     begin : cycle * time ≡ all * round g
@@ -254,9 +266,9 @@ same_slots g tables time cycle node f c has = record {
 -- and the later one doesn't begin before that.
 pub cycles_are_apart : CyclesAreApart
 cycles_are_apart g tables time f h v cycle w z turns others one later is iz less =
-    let o = over (played_of g tables f h v w is) time cycle turns in
+    let over_by = over (played_of g tables f h v w is) time cycle turns in
     let gap : suc one * time ≤ later * time = mul-le-mul_right time less in
     record {
-      executions = λ node there a b l m n p. omega (arith, o.starts node a l m p, gap);
-      frames = λ node there a b l m n p. omega (arith, o.sends node a l m p, gap);
+      executions = λ node there a b l m n p. omega (arith, over_by.starts node a l m p, gap);
+      frames = λ node there a b l m n p. omega (arith, over_by.sends node a l m p, gap);
     }

@@ -19,15 +19,15 @@ use Rattle.cpg_node.specs.Instants.{instants_left}
 pub nearer_set : (nodes : List Dispatcher) (a : ℕ) (d e : Dispatcher) → a < length nodes →
     instants_left d < instants_left (get_or nodes a e) →
     sum_by instants_left (set nodes a d) < sum_by instants_left nodes
-nearer_set nodes a d e l less = omega (arith, sum_by-set instants_left nodes a d e l, less)
+nearer_set nodes a d e within less = omega (arith, sum_by-set instants_left nodes a d e within, less)
 
 -- the node that is asked at a place of the circle
 pub circle_at : (nodes first i : ℕ) → i < nodes →
     drop i (circle nodes first) ≡ ((first + i) % nodes) ∷ drop (i + 1) (circle nodes first)
-circle_at nodes first i l =
+circle_at nodes first i less =
     let long : i < length (circle nodes first) =
-    omega (arith, l, length-map (numbers_below nodes) (λ i. (first + i) % nodes), length-range_with_len 0 nodes) in
-    drop-cons (circle nodes first) i 0 long ∙ ap₂ ◌∷◌ (get_or-map-below (λ i. (first + i) % nodes) nodes i 0 l)
+    omega (arith, less, length-map (numbers_below nodes) (λ i. (first + i) % nodes), length-range_with_len 0 nodes) in
+    drop-cons (circle nodes first) i 0 long ∙ ap₂ ◌∷◌ (get_or-map-below (λ i. (first + i) % nodes) nodes i 0 less)
     (ap (λ m. drop m (circle nodes first)) (sym (add-one i)))
 
 -- A choice round the circle after `asked` asks without a turn, of which `waits` were answered by waiting: what is left
@@ -50,48 +50,48 @@ choosing_none g w c nodes first = record { cluster = refl; waits' = omega arith;
 
 -- given a choice under way, in which not all nodes have been asked
 module _ (g : Graph) (w : World) (c : Cluster) (nodes first asked waits : ℕ)
-    (h : IsChoosing g w c nodes first asked waits) (l : asked < nodes) where
+    (choosing : IsChoosing g w c nodes first asked waits) (l : asked < nodes) where
   -- what is left of the choice goes on as the next node answers
   here : (ans : Answer) → answer g c ((first + asked) % nodes) ≡ ans →
       choose g w c (drop asked (circle nodes first)) ≡ chosen g w c ((first + asked) % nodes) ans
       (choose g w c (drop (asked + 1) (circle nodes first)))
-  here ans e = ap (choose g w c) (circle_at nodes first asked l)
-      ∙ ap (λ ans. chosen g w c ((first + asked) % nodes) ans (choose g w c (drop (asked + 1) (circle nodes first)))) e
+  here ans is = ap (choose g w c) (circle_at nodes first asked l)
+      ∙ ap (λ ans. chosen g w c ((first + asked) % nodes) ans (choose g w c (drop (asked + 1) (circle nodes first)))) is
 
   -- if the next node waits, the rest of the choice is left, with one more wait
   pub choosing_waits : (b : ℕ) → answer g c ((first + asked) % nodes) ≡ Waits b →
       IsChoosing g w c nodes first (asked + 1) (waits + 1)
-  choosing_waits b e = let one = here (Waits b) e in record {
-    cluster = sym (ap (λ (r : Choice). r.cluster) one) ∙ h.cluster;
-    waits' = omega (arith, ap (λ (r : Choice). r.waits) one, h.waits');
-    took = sym (ap (λ (r : Choice). r.took) one) ∙ h.took;
-    few = omega (arith, h.few);
+  choosing_waits b is = let one = here (Waits b) is in record {
+    cluster = sym (ap (λ (r : Choice). r.cluster) one) ∙ choosing.cluster;
+    waits' = omega (arith, ap (λ (r : Choice). r.waits) one, choosing.waits');
+    took = sym (ap (λ (r : Choice). r.took) one) ∙ choosing.took;
+    few = omega (arith, choosing.few);
   }
 
   -- if the next node is done, the rest of the choice is left
   pub choosing_done : answer g c ((first + asked) % nodes) ≡ Done → IsChoosing g w c nodes first (asked + 1) waits
-  choosing_done e = let one = here Done e in record {
-    cluster = sym (ap (λ (r : Choice). r.cluster) one) ∙ h.cluster;
-    waits' = omega (arith, ap (λ (r : Choice). r.waits) one, h.waits');
-    took = sym (ap (λ (r : Choice). r.took) one) ∙ h.took;
-    few = omega (arith, h.few);
+  choosing_done is_done = let one = here Done is_done in record {
+    cluster = sym (ap (λ (r : Choice). r.cluster) one) ∙ choosing.cluster;
+    waits' = omega (arith, ap (λ (r : Choice). r.waits) one, choosing.waits');
+    took = sym (ap (λ (r : Choice). r.took) one) ∙ choosing.took;
+    few = omega (arith, choosing.few);
   }
 
   -- if the next node takes its turn, the choice ends with its step and the waits so far
   pub chosen_took : answer g c ((first + asked) % nodes) ≡ Took →
       ((choose g w c (circle nodes first)).cluster ≡ step g w c ((first + asked) % nodes)) ×
       ((choose g w c (circle nodes first)).waits ≡ waits)
-  chosen_took e = let one = here Took e in (
-    sym h.cluster ∙ ap (λ (r : Choice). r.cluster) one,
-    let z = ap (λ (r : Choice). r.waits) one in omega (arith, z, h.waits'),
+  chosen_took takes = let one = here Took takes in (
+    sym choosing.cluster ∙ ap (λ (r : Choice). r.cluster) one,
+    let more_waits = ap (λ (r : Choice). r.waits) one in omega (arith, more_waits, choosing.waits'),
   )
 
 -- nothing is left of `xs` after `n` elements, if it has no more
 drop_all : {X : Type 0} (n : ℕ) (xs : List X) → length xs ≤ n → drop n xs ≡ []
-drop_all zero [] l = refl
-drop_all (suc n) [] l = refl
-drop_all zero (x ∷ xs) l = absurd (omega arith)
-drop_all (suc n) (x ∷ xs) l = drop_all n xs (omega arith)
+drop_all zero [] at_most = refl
+drop_all (suc n) [] at_most = refl
+drop_all zero (x ∷ xs) at_most = absurd (omega arith)
+drop_all (suc n) (x ∷ xs) at_most = drop_all n xs (omega arith)
 
 -- if `asked` nodes, which are all, were asked without a turn and `waits` of them waited, the choice leaves state `c` as
 -- it was, has these waits and takes no turn
@@ -99,85 +99,86 @@ pub chosen_none : (g : Graph) (w : World) (c : Cluster) (nodes first asked waits
     IsChoosing g w c nodes first asked waits → nodes ≤ asked →
     ((choose g w c (circle nodes first)).cluster ≡ c) × ((choose g w c (circle nodes first)).waits ≡ waits) ×
     ((choose g w c (circle nodes first)).took ≡ false)
-chosen_none g w c nodes first asked waits h l =
+chosen_none g w c nodes first asked waits choosing at_most =
     let none = ap (choose g w c) (drop_all asked (circle nodes first) (omega
-    (arith, l, length-map (numbers_below nodes) (λ i. (first + i) % nodes), length-range_with_len 0 nodes))) in (
-      sym h.cluster ∙ ap (λ (r : Choice). r.cluster) none,
-      (let z = ap (λ (r : Choice). r.waits) none in omega (arith, z, h.waits')),
-      sym h.took ∙ ap (λ (r : Choice). r.took) none,
+    (arith, at_most, length-map (numbers_below nodes) (λ i. (first + i) % nodes), length-range_with_len 0 nodes))) in (
+      sym choosing.cluster ∙ ap (λ (r : Choice). r.cluster) none,
+      (let more_waits = ap (λ (r : Choice). r.waits) none in omega (arith, more_waits, choosing.waits')),
+      sym choosing.took ∙ ap (λ (r : Choice). r.took) none,
     )
 
 -- The steps of a choice, as code takes them.
 
 -- if node `a` answers that it waits on `b`, asking it leaves state `c` as it was
 still_waits : (g : Graph) (w : World) (c : Cluster) (a b : ℕ) → Waits b ≡ answer g c a → step g w c a ≡ c
-still_waits g w c a b e = λ i. step_by g w c a (sym e i) (next (dispatcher_at c a))
+still_waits g w c a b is = λ i. step_by g w c a (sym is i) (next (dispatcher_at c a))
 
 -- if node `a` answers that it is done, asking it leaves state `c` as it was
 still_done : (g : Graph) (w : World) (c : Cluster) (a : ℕ) → Done ≡ answer g c a → step g w c a ≡ c
-still_done g w c a e = λ i. step_by g w c a (sym e i) (next (dispatcher_at c a))
+still_done g w c a is = λ i. step_by g w c a (sym is i) (next (dispatcher_at c a))
 
 -- given the play before a choice, as it is after some asks, and after the next ask
 module _ (old now new : Playing) (nodes first asked waits : ℕ) (count : nodes ≡ length old.graph.nodes)
     (same : now ≡ old) (stepped' : new ≡ stepped now ((first + asked) % nodes))
-    (h : IsChoosing old.graph old.world old.cluster nodes first asked waits) (l : asked < nodes) where
+    (choosing : IsChoosing old.graph old.world old.cluster nodes first asked waits) (l : asked < nodes) where
   -- an answer in the state after the asks is one in the state before the choice
   answered : (ans : Answer) → ans ≡ answer now.graph now.cluster ((first + asked) % nodes) →
       ans ≡ answer old.graph old.cluster ((first + asked) % nodes)
-  answered ans e = e ∙ ap (λ (p : Playing). answer p.graph p.cluster ((first + asked) % nodes)) same
+  answered ans is = is ∙ ap (λ (p : Playing). answer p.graph p.cluster ((first + asked) % nodes)) same
 
   -- if the next node takes its turn, the play is as the choice leaves it
   pub took_state : Took ≡ answer now.graph now.cluster ((first + asked) % nodes) → new ≡ record old
       { cluster = (choose old.graph old.world old.cluster (circle (length old.graph.nodes) first)).cluster }
-  took_state e = stepped' ∙ ap (λ (p : Playing). stepped p ((first + asked) % nodes)) same
+  took_state is = stepped' ∙ ap (λ (p : Playing). stepped p ((first + asked) % nodes)) same
       ∙ ap (λ (c : Cluster). record old { cluster = c })
-      (sym (chosen_took old.graph old.world old.cluster nodes first asked waits h l (sym (answered Took e))).0
+      (sym (chosen_took old.graph old.world old.cluster nodes first asked waits choosing l (sym (answered Took is))).0
       ∙ ap (λ n. (choose old.graph old.world old.cluster (circle n first)).cluster) count)
 
   -- if the next node takes its turn, as many nodes waited as in the choice
   pub took_waits : Took ≡ answer now.graph now.cluster ((first + asked) % nodes) →
       waits ≡ (choose old.graph old.world old.cluster (circle (length old.graph.nodes) first)).waits
-  took_waits e =
-      sym (chosen_took old.graph old.world old.cluster nodes first asked waits h l (sym (answered Took e))).1 ∙
+  took_waits is =
+      sym (chosen_took old.graph old.world old.cluster nodes first asked waits choosing l (sym (answered Took is))).1 ∙
       ap (λ n. (choose old.graph old.world old.cluster (circle n first)).waits) count
 
   -- if the next node waits, the play stays and the choice goes on with one more wait
   pub waits_more : (b : ℕ) → Waits b ≡ answer now.graph now.cluster ((first + asked) % nodes) →
       (new ≡ old) × IsChoosing old.graph old.world old.cluster nodes first (asked + 1) (waits + 1)
-  waits_more b e = (
+  waits_more b is = (
     stepped' ∙ ap (λ (p : Playing). stepped p ((first + asked) % nodes)) same
         ∙ ap (λ (c : Cluster). record old { cluster = c })
-        (still_waits old.graph old.world old.cluster ((first + asked) % nodes) b (answered (Waits b) e)),
-    choosing_waits old.graph old.world old.cluster nodes first asked waits h l b (sym (answered (Waits b) e)),
+        (still_waits old.graph old.world old.cluster ((first + asked) % nodes) b (answered (Waits b) is)),
+    choosing_waits old.graph old.world old.cluster nodes first asked waits choosing l b (sym (answered (Waits b) is)),
   )
 
   -- if the next node is done, the play stays and the choice goes on
   pub done_more : Done ≡ answer now.graph now.cluster ((first + asked) % nodes) →
       (new ≡ old) × IsChoosing old.graph old.world old.cluster nodes first (asked + 1) waits
-  done_more e = (
+  done_more is = (
     stepped' ∙ ap (λ (p : Playing). stepped p ((first + asked) % nodes)) same
         ∙ ap (λ (c : Cluster). record old { cluster = c })
-        (still_done old.graph old.world old.cluster ((first + asked) % nodes) (answered Done e)),
-    choosing_done old.graph old.world old.cluster nodes first asked waits h l (sym (answered Done e)),
+        (still_done old.graph old.world old.cluster ((first + asked) % nodes) (answered Done is)),
+    choosing_done old.graph old.world old.cluster nodes first asked waits choosing l (sym (answered Done is)),
   )
 
 -- given a choice in which every node was asked
 module _ (old now : Playing) (nodes first asked waits : ℕ) (count : nodes ≡ length old.graph.nodes) (same : now ≡ old)
-    (h : IsChoosing old.graph old.world old.cluster nodes first asked waits)
+    (choosing : IsChoosing old.graph old.world old.cluster nodes first asked waits)
     (l : nodes ≤ asked) where
   -- the play is as the choice leaves it
   pub none_state : now ≡ record old
       { cluster = (choose old.graph old.world old.cluster (circle (length old.graph.nodes) first)).cluster }
   none_state = same ∙ ap (λ (c : Cluster). record old { cluster = c })
-      (sym (chosen_none old.graph old.world old.cluster nodes first asked waits h l).0
+      (sym (chosen_none old.graph old.world old.cluster nodes first asked waits choosing l).0
       ∙ ap (λ n. (choose old.graph old.world old.cluster (circle n first)).cluster) count)
 
   -- as many nodes waited as in the choice
   pub none_waits : waits ≡ (choose old.graph old.world old.cluster (circle (length old.graph.nodes) first)).waits
-  none_waits = sym (chosen_none old.graph old.world old.cluster nodes first asked waits h l).1
+  none_waits = sym (chosen_none old.graph old.world old.cluster nodes first asked waits choosing l).1
       ∙ ap (λ n. (choose old.graph old.world old.cluster (circle n first)).waits) count
 
   -- nobody took a turn
   pub none_took : (choose old.graph old.world old.cluster (circle (length old.graph.nodes) first)).took ≡ true → ⊥
-  none_took e = true≢false (sym e ∙ ap (λ n. (choose old.graph old.world old.cluster (circle n first)).took) (sym count)
-      ∙ (chosen_none old.graph old.world old.cluster nodes first asked waits h l).2)
+  none_took holds = true≢false (sym holds
+      ∙ ap (λ n. (choose old.graph old.world old.cluster (circle n first)).took) (sym count)
+      ∙ (chosen_none old.graph old.world old.cluster nodes first asked waits choosing l).2)

@@ -41,7 +41,7 @@ least_node f (suc n) = go (f n) refl (least_node f n)
   where
     -- no node up to `n` has a next instant, if node `n` has none and none before it has one
     all : f n ≡ None → ((a : ℕ) → a < n → f a ≡ None) → (a : ℕ) → a < suc n → f a ≡ None
-    all e none a l = elim (cases_eq a n) [ inl s ↦ ap f s ∙ e | inr ne ↦ none a (omega arith) ]
+    all is none a less = elim (cases_eq a n) [ inl s ↦ ap f s ∙ is | inr ne ↦ none a (omega arith) ]
 
     -- by whether node n has a next instant, and whether a node before it has
     go : (o : Option ℕ) → f n ≡ o →
@@ -50,39 +50,41 @@ least_node f (suc n) = go (f n) refl (least_node f n)
         ((a : ℕ) × (a < suc n) × (time : ℕ) × (f a ≡ Some time) ×
         ((other moment : ℕ) → other < suc n → f other ≡ Some moment → time ≤ moment)) ⊎
         ((a : ℕ) → a < suc n → f a ≡ None)
-    go None e (inr none) = inr (all e none)
+    go None is (inr none) = inr (all is none)
     -- node n has no next instant, so the least one of the others is still the least
-    go None e (inl q) = inl (
+    go None is (inl q) = inl (
       q.0,
       omega arith,
       q.2,
       q.3,
       λ other moment l h. elim (cases_eq other n)
-          [ inl s ↦ absurd (none-some moment (sym (ap f s ∙ e) ∙ h)) | inr ne ↦ q.4 other moment (omega arith) h ],
+          [ inl s ↦ absurd (none-some moment (sym (ap f s ∙ is) ∙ h)) | inr ne ↦ q.4 other moment (omega arith) h ],
     )
     -- node n alone has a next instant
-    go (Some t) e (inr none) = inl (
+    go (Some t) is (inr none) = inl (
       n,
       omega arith,
       t,
-      e,
+      is,
       λ other moment l h. elim (cases_eq other n) [
-        | inl s ↦ let z : t ≡ moment = same_Some t moment (sym (ap f s ∙ e) ∙ h) in omega (arith, z)
+        | inl same_node ↦ let times : t ≡ moment = same_Some t moment (sym (ap f same_node ∙ is)
+            ∙ h) in omega (arith, times)
         | inr ne ↦ absurd (none-some moment (sym (none other (omega arith)) ∙ h))
       ],
     )
     -- both have one, and the earlier of the two is the least
-    go (Some t) e (inl q) = elim (cases_lt t q.2) [
+    go (Some t) is (inl q) = elim (cases_lt t q.2) [
       | inl less ↦ inl (
         n,
         omega arith,
         t,
-        e,
+        is,
         λ other moment l h. elim
             (cases_eq other n) [
-              | inl s ↦ let z : t ≡ moment = same_Some t moment (sym (ap f s ∙ e) ∙ h) in omega (arith, z)
-              | inr ne ↦ let y = q.4 other moment (omega arith) h in
-                  omega (arith, y, less)
+              | inl same_node ↦ let times : t ≡ moment = same_Some t moment (sym (ap f same_node ∙ is)
+                  ∙ h) in omega (arith, times)
+              | inr ne ↦ let at_most = q.4 other moment (omega arith) h in
+                  omega (arith, at_most, less)
             ],
       )
       | inr more ↦ inl (
@@ -91,7 +93,8 @@ least_node f (suc n) = go (f n) refl (least_node f n)
         q.2,
         q.3,
         λ other moment l h. elim (cases_eq other n) [
-          | inl s ↦ let z : t ≡ moment = same_Some t moment (sym (ap f s ∙ e) ∙ h) in omega (arith, z, more)
+          | inl same_node ↦ let times : t ≡ moment = same_Some t moment (sym (ap f same_node ∙ is) ∙ h) in
+              omega (arith, times, more)
           | inr ne ↦ q.4 other moment (omega arith) h
         ],
       )
@@ -100,40 +103,41 @@ least_node f (suc n) = go (f n) refl (least_node f n)
 -- if a choice among nodes `xs` takes no turn, none of them would take one in state `c`; by induction on the nodes
 not_took : (g : Graph) (w : World) (c : Cluster) (xs : List ℕ) → (choose g w c xs).took ≡ false → (a : ℕ) →
     Contains xs a → answer g c a ≡ Took → ⊥
-not_took g w c [] f a h e = Contains-nil a h
-not_took g w c (x ∷ xs) f a h e = go (answer g c x) refl f (λ k m. not_took g w c xs k a m e)
+not_took g w c [] fails a there takes = Contains-nil a there
+not_took g w c (x ∷ xs) fails a there takes = go (answer g c x) refl fails
+    (λ is_false among. not_took g w c xs is_false a among takes)
   where
     -- the node isn't x, which doesn't take a turn, and it is none of the others
     rest : (answer g c x ≡ Took → ⊥) → (Contains xs a → ⊥) → ⊥
-    rest no' ih = elim (Contains-cases x xs a h) [ inl s ↦ no' (ap (answer g c) s ∙ e) | inr m ↦ ih m ]
+    rest no' ih = elim (Contains-cases x xs a there) [ inl s ↦ no' (ap (answer g c) s ∙ takes) | inr m ↦ ih m ]
 
     -- by the answer of x: a turn would contradict, and else the choice goes on with the others
     go : (ans : Answer) → answer g c x ≡ ans → (chosen g w c x ans (choose g w c xs)).took ≡ false →
         ((choose g w c xs).took ≡ false → Contains xs a → ⊥) → ⊥
-    go Took i k ih = true≢false k
-    go (Waits b) i k ih = rest (λ t. let z : Waits b ≡ Took = sym i ∙ t in cc) (ih k)
-    go Done i k ih = rest (λ t. let z : Done ≡ Took = sym i ∙ t in cc) (ih k)
+    go Took is is_false ih = true≢false is_false
+    go (Waits b) is is_false ih = rest (λ took. let conflict : Waits b ≡ Took = sym is ∙ took in cc) (ih is_false)
+    go Done is is_false ih = rest (λ took. let conflict : Done ≡ Took = sym is ∙ took in cc) (ih is_false)
 
 -- each node `a` is on the circle of `n` nodes, whatever node `first` it begins with
 circle_all : (n first a : ℕ) → first < n → a < n → Contains (circle n first) a
 circle_all n first a f l = elim (cases_lt a first) [
-  | inr past ↦ at (a - first) (omega arith) (ap (λ m. m % n) (let z : first + (a - first) ≡ a = omega arith in z)
+  | inr past ↦ at (a - first) (omega arith) (ap (λ m. m % n) (let sum : first + (a - first) ≡ a = omega arith in sum)
       ∙ mod-eq_of_lt l)
   | inl before ↦
-      at (a + n - first) (omega arith) (ap (λ m. m % n) (let z : first + (a + n - first) ≡ a + n = omega arith in z)
+      at (a + n - first) (omega arith) (ap (λ m. m % n) (let sum : first + (a + n - first) ≡ a + n = omega arith in sum)
       ∙ add-mod_right a n ∙ mod-eq_of_lt l)
 ]
   where
     -- the node at place i of the circle is on it
     at : (i : ℕ) → i < n → (first + i) % n ≡ a → Contains (circle n first) a
-    at i k e = subst (Contains (circle n first)) e
-        (Contains-map (λ i. (first + i) % n) (numbers_below n) i (Contains-numbers n i k))
+    at i less is = subst (Contains (circle n first)) is
+        (Contains-map (λ i. (first + i) % n) (numbers_below n) i (Contains-numbers n i less))
 
 -- if some member has a next instant, there is a node `b` with one; by induction on the members
 left_node : (ms : List Member) → list_any (λ (m : Member). is_some (next m.node.dispatcher)) ms ≡ true →
     (b : ℕ) × (b < length ms) × (time : ℕ) × (next (dispatcher_at (cluster_of ms) b) ≡ Some time)
-left_node [] e = absurd (true≢false (sym e))
-left_node (m ∷ ms) e = go (next m.node.dispatcher) refl e (left_node ms)
+left_node [] holds = absurd (true≢false (sym holds))
+left_node (m ∷ ms) holds = go (next m.node.dispatcher) refl holds (left_node ms)
   where
     -- by the next instant of the first member: it is the one, or there is one among the others
     go : (o : Option ℕ) → next m.node.dispatcher ≡ o →
@@ -141,56 +145,61 @@ left_node (m ∷ ms) e = go (next m.node.dispatcher) refl e (left_node ms)
         (list_any (λ (m : Member). is_some (next m.node.dispatcher)) ms ≡ true →
         (b : ℕ) × (b < length ms) × (time : ℕ) × (next (dispatcher_at (cluster_of ms) b) ≡ Some time)) →
         (b : ℕ) × (b < length (m ∷ ms)) × (time : ℕ) × (next (dispatcher_at (cluster_of (m ∷ ms)) b) ≡ Some time)
-    go (Some t) i h ih = (0, omega arith, t, i)
-    go None i h ih = let r = ih h in (suc r.0, omega (arith, r.1), r.2, r.3)
+    go (Some t) is is_true ih = (0, omega arith, t, is)
+    go None is is_true ih = let among_others = ih is_true in
+        (suc among_others.0, omega (arith, among_others.1), among_others.2, among_others.3)
 
 -- an option without a value is `None`
 none_is : (o : Option ℕ) → is_some o ≡ false → o ≡ None
-none_is None e = refl
-none_is (Some t) e = absurd (true≢false e)
+none_is None fails = refl
+none_is (Some t) fails = absurd (true≢false fails)
 
 -- given the members of a play
-module _ (g : Graph) (w : World) (ms : List Member) (p : IsPlaying (play_of g w ms)) where
+module _ (g : Graph) (w : World) (ms : List Member) (playing : IsPlaying (play_of g w ms)) where
   -- there is a member for each node
   count : length ms ≡ length g.nodes
-  count = sym (length-map ms (λ (m : Member). m.node.dispatcher.table)) ∙ p.shape.count
+  count = sym (length-map ms (λ (m : Member). m.node.dispatcher.table)) ∙ playing.shape.count
 
   -- if no member has a next instant, all nodes are done
   pub all_done : list_any (λ (m : Member). is_some (next m.node.dispatcher)) ms ≡ false → AllDone g (cluster_of ms)
-  all_done e b l =
-      let k : b < length ms = omega (arith, l, count) in
-      let d = member ms b k in
+  all_done fails b l =
+      let within : b < length ms = omega (arith, l, count) in
+      let blank = member ms b within in
       ap (answer_at g (cluster_of ms) b)
-      (ap next (dispatcher_is ms b d k) ∙ none_is (next (get_or ms b d).node.dispatcher)
-      (from_any_false (λ (m : Member). is_some (next m.node.dispatcher)) ms (get_or ms b d) e
-      (Contains-get_or ms b d k)))
+      (ap next (dispatcher_is ms b blank within) ∙ none_is (next (get_or ms b blank).node.dispatcher)
+      (from_any_false (λ (m : Member). is_some (next m.node.dispatcher)) ms (get_or ms b blank) fails
+      (Contains-get_or ms b blank within)))
     where
       -- the member at a place, which serves as the default of `get_or`
       member : (ms : List Member) (i : ℕ) → i < length ms → Member
-      member [] i l = absurd (omega arith)
-      member (m ∷ ms) i l = m
+      member [] i within = absurd (omega arith)
+      member (m ∷ ms) i within = m
 
   -- if some member has a next instant, not all nodes are done
   pub not_done : list_any (λ (m : Member). is_some (next m.node.dispatcher)) ms ≡ true → AllDone g (cluster_of ms) → ⊥
-  not_done e d = let q = left_node ms e in
-      never_done _ (sym (ap (answer_at g (cluster_of ms) q.0) q.3) ∙ d q.0 (omega (arith, q.1, count)))
+  not_done holds d = let unfinished = left_node ms holds in
+      never_done _ (sym (ap (answer_at g (cluster_of ms) unfinished.0) unfinished.3)
+      ∙ d unfinished.0 (omega (arith, unfinished.1, count)))
 
   -- If some member has a next instant, a node takes its turn in each choice: a node with the least next instant would
   -- take it, and each node is on the circle.
   pub someone_takes : list_any (λ (m : Member). is_some (next m.node.dispatcher)) ms ≡ true → (first : ℕ) →
       first < length g.nodes →
       (choose g w (cluster_of ms) (circle (length g.nodes) first)).took ≡ true
-  someone_takes e first f = elim (cases_Bool (choose g w (cluster_of ms) (circle (length g.nodes) first)).took) [
-    | inl t ↦ t
-    | inr none ↦ elim (least_node (λ b. next (dispatcher_at (cluster_of ms) b)) (length g.nodes)) [
-      | inr no' ↦ let q = left_node ms e in absurd (none-some q.2 (sym (no' q.0 (omega (arith, q.1, count))) ∙ q.3))
-      | inl q ↦
-          let k = played_of g (play_of g w ms).tables p.formed p.shape p.valid w p.world in
-          absurd (not_took g w (cluster_of ms) (circle (length g.nodes) first) none q.0
-          (circle_all (length g.nodes) first q.0 f q.1)
-          (least_took k (cluster_of ms) (played_reached k (cluster_of ms) p.played) q.0 q.2 q.1 q.3 q.4))
-    ]
-  ]
+  someone_takes holds first within = elim (cases_Bool
+      (choose g w (cluster_of ms) (circle (length g.nodes) first)).took) [
+        | inl t ↦ t
+        | inr none ↦ elim (least_node (λ b. next (dispatcher_at (cluster_of ms) b)) (length g.nodes)) [
+          | inr no' ↦ let unfinished = left_node ms holds in
+              absurd (none-some unfinished.2 (sym (no' unfinished.0 (omega (arith, unfinished.1, count))) ∙ unfinished.3))
+          | inl least ↦
+              let played = played_of g (play_of g w ms).tables playing.formed playing.shape playing.valid w playing.world in
+              absurd (not_took g w (cluster_of ms) (circle (length g.nodes) first) none least.0
+              (circle_all (length g.nodes) first least.0 within least.1)
+              (least_took played (cluster_of ms) (played_reached played (cluster_of ms) playing.played) least.0 least.2
+              least.1 least.3 least.4))
+        ]
+      ]
 
 -- the number that is drawn for the n-th choice after a number
 abbrev pub number_after : ℕ → ℕ → ℕ
@@ -209,32 +218,32 @@ driven_more : (g : Graph) (w : World) (n x : ℕ) (c now : Cluster) (total : ℕ
       (choice g w now (next_number (number_after n x))).cluster,
       total + (choice g w now (next_number (number_after n x))).waits,
     )
-driven_more g w zero x c now total e =
+driven_more g w zero x c now total is =
     -- no choice was made yet: the state is the first, and there are no waits
-    let a : c ≡ now = ap (λ (q : Cluster × ℕ). q.0) e in
-    let b : 0 ≡ total = ap (λ (q : Cluster × ℕ). q.1) e in
-    let z : (choice g w now (next_number x)).waits + 0 ≡ total + (choice g w now (next_number x)).waits =
-    omega (arith, b) in
-    ap (λ (c : Cluster). ((choice g w c (next_number x)).cluster, (choice g w c (next_number x)).waits + 0)) a
-    ∙ ap (λ n. ((choice g w now (next_number x)).cluster, n)) z
-driven_more g w (suc n) x c now total e =
+    let same_state : c ≡ now = ap (λ (q : Cluster × ℕ). q.0) is in
+    let no_waits : 0 ≡ total = ap (λ (q : Cluster × ℕ). q.1) is in
+    let same_total : (choice g w now (next_number x)).waits + 0 ≡ total + (choice g w now (next_number x)).waits =
+    omega (arith, no_waits) in
+    ap (λ (c : Cluster). ((choice g w c (next_number x)).cluster, (choice g w c (next_number x)).waits + 0)) same_state
+    ∙ ap (λ n. ((choice g w now (next_number x)).cluster, n)) same_total
+driven_more g w (suc n) x c now total is =
     -- the first of the choices, and the others after it
     let one = choice g w c (next_number x) in
     let rest = driven g w n (next_number x) one.cluster in
     -- by induction, the others with one choice more go on from where they led
-    let r = driven_more g w n (next_number x) one.cluster rest.0 rest.1 refl in
+    let others_more = driven_more g w n (next_number x) one.cluster rest.0 rest.1 refl in
     -- they led to `now`, and the waits of all add up to `total`
-    let a : rest.0 ≡ now = ap (λ (q : Cluster × ℕ). q.0) e in
-    let b : one.waits + rest.1 ≡ total = ap (λ (q : Cluster × ℕ). q.1) e in
-    ap (λ (q : Cluster × ℕ). (q.0, one.waits + q.1)) r
+    let same_state : rest.0 ≡ now = ap (λ (q : Cluster × ℕ). q.0) is in
+    let total_is : one.waits + rest.1 ≡ total = ap (λ (q : Cluster × ℕ). q.1) is in
+    ap (λ (q : Cluster × ℕ). (q.0, one.waits + q.1)) others_more
     ∙ ap (λ (c : Cluster). (
       (choice g w c (next_number (number_after n (next_number x)))).cluster,
       one.waits + (rest.1 + (choice g w c (next_number (number_after n (next_number x)))).waits),
-    )) a
+    )) same_state
     ∙ ap (λ n'. ((choice g w now (next_number (number_after n (next_number x)))).cluster, n'))
-    (let z : one.waits + (rest.1 + (choice g w now (next_number (number_after n (next_number x)))).waits)
+    (let same_waits : one.waits + (rest.1 + (choice g w now (next_number (number_after n (next_number x)))).waits)
     ≡ total + (choice g w now (next_number (number_after n (next_number x)))).waits =
-    omega (arith, b) in z)
+    omega (arith, total_is) in same_waits)
 
 -- A drive on the way, after some choices: `number` is the one that was drawn for the last choice, and not all nodes
 -- were done before it.
@@ -258,18 +267,18 @@ pub driving_more : (g : Graph) (w : World) (x : ℕ) (c now new : Cluster) (numb
     next' ≡ next_number number →
     new ≡ (choice g w now next').cluster → more ≡ (choice g w now next').waits →
     IsDriving g w x c new next' (waits + more)
-driving_more g w x c now new number waits more next' h left n e m =
-    let at : next' ≡ next_number (number_after h.turns x) = n ∙ ap next_number h.number' in
+driving_more g w x c now new number waits more next' driving left n e m =
+    let at : next' ≡ next_number (number_after driving.turns x) = n ∙ ap next_number driving.number' in
     record {
-      turns = suc h.turns;
-      is = driven_more g w h.turns x c now waits h.is
+      turns = suc driving.turns;
+      is = driven_more g w driving.turns x c now waits driving.is
           ∙ (λ i. ((choice g w now (sym at i)).cluster, waits + (choice g w now (sym at i)).waits))
           ∙ (λ i. (sym e i, waits + sym m i));
-      number' = at ∙ sym (number_more h.turns x);
-      needed = λ fewer l d. elim (cases_eq fewer h.turns) [
+      number' = at ∙ sym (number_more driving.turns x);
+      needed = λ fewer l d. elim (cases_eq fewer driving.turns) [
         | inl same ↦
-            left (subst (AllDone g) (ap (λ n. (driven g w n x c).0) same ∙ ap (λ (q : Cluster × ℕ). q.0) h.is) d)
-        | inr ne ↦ h.needed fewer (omega arith) d
+            left (subst (AllDone g) (ap (λ n. (driven g w n x c).0) same ∙ ap (λ (q : Cluster × ℕ). q.0) driving.is) d)
+        | inr ne ↦ driving.needed fewer (omega arith) d
       ];
     }
 
@@ -277,7 +286,12 @@ driving_more g w x c now new number waits more next' h left n e m =
 pub driving_done : (g : Graph) (w : World) (x : ℕ) (c now : Cluster) (number waits : ℕ) →
     IsDriving g w x c now number waits → AllDone g now →
     IsDriven g w x c now waits
-driving_done g w x c now number waits h d = record { turns = h.turns; is = h.is; done = d; needed = h.needed }
+driving_done g w x c now number waits driving d = record {
+  turns = driving.turns;
+  is = driving.is;
+  done = d;
+  needed = driving.needed;
+}
 
 -- The same for `now`, the play as code sees it, which is that of the members.
 
@@ -288,23 +302,25 @@ pub takes_at : (g : Graph) (w : World) (ms : List Member) (now : Playing) → pl
     (first : ℕ) →
     first < length now.graph.nodes →
     (choose now.graph now.world now.cluster (circle (length now.graph.nodes) first)).took ≡ true
-takes_at g w ms now view p e = subst (λ (now : Playing). (first : ℕ) → first < length now.graph.nodes →
+takes_at g w ms now view playing holds = subst (λ (now : Playing). (first : ℕ) → first < length now.graph.nodes →
     (choose now.graph now.world now.cluster (circle (length now.graph.nodes) first)).took ≡ true)
-    view (someone_takes g w ms p e)
+    view (someone_takes g w ms playing holds)
 
 -- if some member has a next instant, not all nodes of the play `now` are done
 pub left_at : (g : Graph) (w : World) (ms : List Member) (now : Playing) → play_of g w ms ≡ now →
     IsPlaying (play_of g w ms) →
     list_any (λ (m : Member). is_some (next m.node.dispatcher)) ms ≡ true →
     AllDone now.graph now.cluster → ⊥
-left_at g w ms now view p e = subst (λ (now : Playing). AllDone now.graph now.cluster → ⊥) view (not_done g w ms p e)
+left_at g w ms now view playing holds = subst (λ (now : Playing). AllDone now.graph now.cluster → ⊥) view
+    (not_done g w ms playing holds)
 
 -- if no member has a next instant, all nodes of the play `now` are done
 pub done_at : (g : Graph) (w : World) (ms : List Member) (now : Playing) → play_of g w ms ≡ now →
     IsPlaying (play_of g w ms) →
     list_any (λ (m : Member). is_some (next m.node.dispatcher)) ms ≡ false →
     AllDone now.graph now.cluster
-done_at g w ms now view p e = subst (λ (now : Playing). AllDone now.graph now.cluster) view (all_done g w ms p e)
+done_at g w ms now view playing fails = subst (λ (now : Playing). AllDone now.graph now.cluster) view
+    (all_done g w ms playing fails)
 
 -- the tables of the dispatchers are those of the members; by induction on `ms`
 tables_twice : (ms : List Member) →
@@ -316,16 +332,16 @@ tables_twice (m ∷ ms) = ap (λ (ts : List NodeTable). m.node.dispatcher.table 
 pub most_at : (g : Graph) (w : World) (ms : List Member) (now : Playing) → play_of g w ms ≡ now →
     IsPlaying (play_of g w ms) → length ms ≤ 16 →
     remaining now.cluster ≤ 5261328
-most_at g w ms now view p few =
-    let k = played_of g (tables_of ms) p.formed p.shape p.valid w p.world in
-    let r = played_reached k (cluster_of ms) p.played in
+most_at g w ms now view playing few =
+    let played = played_of g (tables_of ms) playing.formed playing.shape playing.valid w playing.world in
+    let reached = played_reached played (cluster_of ms) playing.played in
     let nodes = length-map ms (λ (m : Member). m.node.dispatcher) in
     subst (λ (now : Playing). remaining now.cluster ≤ 5261328) view
-    (most_remaining g (cluster_of ms) p.limits (omega (arith, few, nodes))
-    (λ i l. ap (λ (d : Dispatcher). d.table.own) (r.holds i (omega (arith, l, r.nodes))).is)
+    (most_remaining g (cluster_of ms) playing.limits (omega (arith, few, nodes))
+    (λ i l. ap (λ (d : Dispatcher). d.table.own) (reached.holds i (omega (arith, l, reached.nodes))).is)
     (omega (
       arith,
-      p.lawful.few,
+      playing.lawful.few,
       ap (λ (ts : List NodeTable). sum_by (λ (t : NodeTable). column_count (rows_of t)) ts) (tables_twice ms),
     )))
 
@@ -339,7 +355,7 @@ pub drive_step : (old now new : Playing) (x drawn waits drawn' first more : ℕ)
     more ≡ (choose now.graph now.world now.cluster (circle (length now.graph.nodes) first)).waits →
     (new ≡ record old { cluster = new.cluster }) ×
     IsDriving old.graph old.world x old.cluster new.cluster drawn' (waits + more)
-drive_step old now new x drawn waits drawn' first more same h left d f e m =
+drive_step old now new x drawn waits drawn' first more same driving left is f e m =
     -- the graph, the world and the tables are still those of the beginning
     let ge : now.graph ≡ old.graph = ap (λ (p : Playing). p.graph) same in
     let we : now.world ≡ old.world = ap (λ (p : Playing). p.world) same in
@@ -359,8 +375,8 @@ drive_step old now new x drawn waits drawn' first more same h left d f e m =
           new.cluster;
     }) in (
       kept,
-      driving_more old.graph old.world x old.cluster now.cluster new.cluster drawn waits more drawn' h
-          (subst (λ (g : Graph). AllDone g now.cluster → ⊥) ge left) d
+      driving_more old.graph old.world x old.cluster now.cluster new.cluster drawn waits more drawn' driving
+          (subst (λ (g : Graph). AllDone g now.cluster → ⊥) ge left) is
           (ap (λ (p : Playing). p.cluster) e ∙ ap (λ (r : Choice). r.cluster) one)
           (m ∙ ap (λ (r : Choice). r.waits) one),
     )

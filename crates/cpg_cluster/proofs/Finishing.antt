@@ -48,19 +48,20 @@ table_finished d (e ∷ es) = table_finished (finished d e) es
 running_found : (g : Graph) (h : Own → Option Running) (ps : List ℕ) → Rises (λ x y. x < y) ps → (p : ℕ) →
     Contains ps p →
     running_in (map (own_process g) ps) (map h (map (own_process g) ps)) p ≡ h (own_process g p)
-running_found g h [] r p c = absurd (Contains-nil p c)
-running_found g h (q ∷ qs) r p c = elim (Contains-cases q qs p c) [
-  | inl e ↦ cond-true (q == p) (h (own_process g q))
-      (running_in (map (own_process g) qs) (map h (map (own_process g) qs)) p) (eq-eqb q p e)
-      ∙ ap (λ n. h (own_process g n)) e
-  | inr m ↦ cond-false (q == p) (h (own_process g q)) (running_in (map (own_process g) qs)
-      (map h (map (own_process g) qs)) p) (ne_eqb q p (λ e. let l = r.0 p m in absurd (omega (arith, l, e)))) ∙
-      running_found g h qs r.1 p m
+running_found g h [] rising p there = absurd (Contains-nil p there)
+running_found g h (q ∷ qs) rising p there = elim (Contains-cases q qs p there) [
+  | inl same ↦ cond-true (q == p) (h (own_process g q))
+      (running_in (map (own_process g) qs) (map h (map (own_process g) qs)) p) (eq-eqb q p same)
+      ∙ ap (λ n. h (own_process g n)) same
+  | inr later ↦ cond-false (q == p) (h (own_process g q)) (running_in (map (own_process g) qs)
+      (map h (map (own_process g) qs)) p) (ne_eqb q p (λ same. let above = rising.0 p later in
+      absurd (omega (arith, above, same)))) ∙
+      running_found g h qs rising.1 p later
 ]
 
 -- given a node with its next instant
-module _ {g : Graph} {tables : List NodeTable} {w : World} (k : Played g tables w) (node : ℕ)
-    (l : node < length g.nodes) (heard : List Range) (last : Option ℕ) (time : ℕ)
+module _ {g : Graph} {tables : List NodeTable} {w : World} (played : Played g tables w) (node : ℕ)
+    (inside : node < length g.nodes) (heard : List Range) (last : Option ℕ) (time : ℕ)
     (comes : next (node_state g tables w node heard last) ≡ Some time) where
   -- the node's table
   abbrev table : OwnTable
@@ -86,10 +87,12 @@ module _ {g : Graph} {tables : List NodeTable} {w : World} (k : Played g tables 
       MayFinish (state h) (run.start + get_or w.lengths p 0) (ended_of g w (own_process g p))
   may h n p on run is plan none over =
       -- the process is one of the node's, with few faults, and its table knows how long it takes
-      let m = (on_node k node l heard last time (next_is (node_state g tables w node heard last) time comes) p on).0 in
-      let few = few_faults k node l heard last time (next_is (node_state g tables w node heard last) time comes) p m in
-      let long = k.world.lengths p m in
-      let own = own_found k node l p on in
+      let within = (on_node played node inside heard last time
+      (next_is (node_state g tables w node heard last) time comes) p on).0 in
+      let few = few_faults played node inside heard last time
+      (next_is (node_state g tables w node heard last) time comes) p within in
+      let long = played.world.lengths p within in
+      let own = own_found played node inside p on in
       let span : time_of (state h) p (fault_of w.scenario p) ≡ duration g p (fault_of w.scenario p) =
       ap (λ (o : Own). get_or o.times (fault_of w.scenario p) 0) own
       ∙ get_or-map-below (duration g p) (g.faults + 1) (fault_of w.scenario p) 0 (omega (arith, few)) in
@@ -103,7 +106,7 @@ module _ {g : Graph} {tables : List NodeTable} {w : World} (k : Played g tables 
             λ e. ap (λ o. is_some o && value_of g w.scenario.values p) (sym (ap (λ (o : Own). o.condition) own) ∙ e);
         started = omega (arith, long);
         in_time = omega (arith, long, span);
-        later = unreported k last p run plan none;
+        later = unreported played last p run plan none;
         before = subst (λ o. IfSome o (λ n. run.start + get_or w.lengths p 0 ≤ n)) (sym n) over;
       }
 
@@ -120,8 +123,8 @@ module _ {g : Graph} {tables : List NodeTable} {w : World} (k : Played g tables 
 
   -- a report of process `p` changes nothing of the next instant
   next_after : (h : Own → Option Running) (p : ℕ) → next (state h) ≡ Some time → next (state (after h p)) ≡ Some time
-  next_after h p n = ap next (sym (state_after h p))
-      ∙ next_reported (ended_of g w (own_process g p)) table heard (map h (own_of_node g node)) last ∙ n
+  next_after h p comes_next = ap next (sym (state_after h p))
+      ∙ next_reported (ended_of g w (own_process g p)) table heard (map h (own_of_node g node)) last ∙ comes_next
 
   -- after a report of process `p`, another process `q` runs what it ran before, as `h` says
   kept : (h : Own → Option Running) (p q : ℕ) → q ≢ p → after h p (own_process g q) ≡ h (own_process g q)
@@ -136,8 +139,8 @@ module _ {g : Graph} {tables : List NodeTable} {w : World} (k : Played g tables 
 
   -- a report that isn't there is none
   no_report : (o : Option Ended) → is_none o ≡ true → o ≡ None
-  no_report None t = refl
-  no_report (Some r) t = absurd (true≢false (sym t))
+  no_report None holds = refl
+  no_report (Some r) holds = absurd (true≢false (sym holds))
 
   -- If the reports of the later processes, `rest`, may be taken, so may that of process `p`, if it has one, and then
   -- theirs.
@@ -146,13 +149,13 @@ module _ {g : Graph} {tables : List NodeTable} {w : World} (k : Played g tables 
       (rest : List (ℕ × Ended)) →
       AllFinish (state h) rest → AllFinish (state (after h p)) rest →
       AllFinish (state h) (report_of g w time (own_process g p) (planned g tables w last (own_process g p)) ++ rest)
-  one_more h n p on same rest before then = go (planned g tables w last (own_process g p)) refl
+  one_more h comes_next p on same rest before then = go (planned g tables w last (own_process g p)) refl
     where
       -- by whether p's execution was planned and has begun
       go : (o : Option Running) → planned g tables w last (own_process g p) ≡ o →
           AllFinish (state h) (report_of g w time (own_process g p) o ++ rest)
-      go None e = before
-      go (Some run) e = test (is_none run.report && leb (run.start + get_or w.lengths p 0) time) refl
+      go None is = before
+      go (Some run) is = test (is_none run.report && leb (run.start + get_or w.lengths p 0) time) refl
         where
           -- it is reported if it has no report and is over by the time
           test : (b : Bool) → (is_none run.report && leb (run.start + get_or w.lengths p 0) time) ≡ b →
@@ -160,8 +163,8 @@ module _ {g : Graph} {tables : List NodeTable} {w : World} (k : Played g tables 
               (cond b ((run.start + get_or w.lengths p 0, ended_of g w (own_process g p)) ∷ []) [] ++ rest)
           test false _ = before
           test true b =
-              let q = and_parts (is_none run.report) (leb (run.start + get_or w.lengths p 0) time) b in (
-                may h n p on run (same ∙ e) e (no_report run.report q.0) (leb-true _ _ q.1),
+              let both = and_parts (is_none run.report) (leb (run.start + get_or w.lengths p 0) time) b in (
+                may h comes_next p on run (same ∙ is) is (no_report run.report both.0) (leb-true _ _ both.1),
                 subst (λ d. AllFinish d rest) (sym (state_after h p)) then,
               )
 
@@ -171,12 +174,15 @@ module _ {g : Graph} {tables : List NodeTable} {w : World} (k : Played g tables 
       ((p : ℕ) → Contains ps p → Contains (processes_on g node) p) →
       ((p : ℕ) → Contains ps p → h (own_process g p) ≡ planned g tables w last (own_process g p)) →
       AllFinish (state h) (flat_map (λ o. report_of g w time o (planned g tables w last o)) (map (own_process g) ps))
-  all_from h n [] r on same = tt
-  all_from h n (p ∷ ps) r on same = one_more h n p (on p (Contains-first p ps)) (same p (Contains-first p ps))
+  all_from h comes_next [] rising on same = tt
+  all_from h comes_next (p ∷ ps) rising on same = one_more h comes_next p (on p (Contains-first p ps))
+      (same p (Contains-first p ps))
       (flat_map (λ o. report_of g w time o (planned g tables w last o)) (map (own_process g) ps))
-      (all_from h n ps r.1 (λ q c. on q (Contains-rest p ps q c)) (λ q c. same q (Contains-rest p ps q c)))
-      (all_from (after h p) (next_after h p n) ps r.1 (λ q c. on q (Contains-rest p ps q c))
-      (λ q c. kept h p q (λ e. let m = r.0 q c in absurd (omega (arith, m, e))) ∙ same q (Contains-rest p ps q c)))
+      (all_from h comes_next ps rising.1 (λ q there. on q (Contains-rest p ps q there))
+      (λ q there. same q (Contains-rest p ps q there)))
+      (all_from (after h p) (next_after h p comes_next) ps rising.1 (λ q later. on q (Contains-rest p ps q later))
+      (λ q later. kept h p q (λ is. let above = rising.0 q later in absurd (omega (arith, above, is)))
+      ∙ same q (Contains-rest p ps q later)))
 
   -- a node may take the reports of all executions that are over by its next instant
   pub all_finish : AllFinish (node_state g tables w node heard last)
@@ -188,50 +194,52 @@ module _ {g : Graph} {tables : List NodeTable} {w : World} (k : Played g tables 
       (all_from (planned g tables w last) comes (processes_on g node) processes_rise (λ p c. c) (λ p c. refl))
 
 -- given a node with its next instant in a state that a play reaches
-module _ {g : Graph} {tables : List NodeTable} {w : World} (k : Played g tables w) (c : Cluster)
-    (r : Reached g tables w c) (a : ℕ) (l : a < length g.nodes) (time : ℕ)
-    (e : next (dispatcher_at c a) ≡ Some time) where
+module _ {g : Graph} {tables : List NodeTable} {w : World} (played : Played g tables w) (c : Cluster)
+    (reached : Reached g tables w c) (a : ℕ) (within : a < length g.nodes) (time : ℕ)
+    (comes : next (dispatcher_at c a) ≡ Some time) where
   -- a node may take the reports of all executions that are over by its next instant
   pub may_finish : AllFinish (dispatcher_at c a) (reports_now g w (dispatcher_at c a) time)
-  may_finish = let n = r.holds a l in
-      subst (λ d. AllFinish d (reports_now g w d time)) (sym n.is)
-      (all_finish k a l n.heard n.last time (ap next (sym n.is) ∙ e))
+  may_finish = let state = reached.holds a within in
+      subst (λ d. AllFinish d (reports_now g w d time)) (sym state.is)
+      (all_finish played a within state.heard state.last time (ap next (sym state.is) ∙ comes))
 
   -- its next instant stays the same after these reports
   pub next_ready : next (reported g w (dispatcher_at c a) time) ≡ Some time
   next_ready =
-      next_finished (dispatcher_at c a) (map (λ (r : ℕ × Ended). r.1) (reports_now g w (dispatcher_at c a) time)) ∙ e
+      next_finished (dispatcher_at c a)
+      (map (λ (r : ℕ × Ended). r.1) (reports_now g w (dispatcher_at c a) time)) ∙ comes
 
   -- the reports before a turn do not change the node's table
   pub table_ready : (reported g w (dispatcher_at c a) time).table ≡ own_table g a (table_at tables a)
   table_ready =
       table_finished (dispatcher_at c a) (map (λ (r : ℕ × Ended). r.1) (reports_now g w (dispatcher_at c a) time))
-      ∙ ap (λ (d : Dispatcher). d.table) (r.holds a l).is
+      ∙ ap (λ (d : Dispatcher). d.table) (reached.holds a within).is
 
   -- After these reports it may take its turn with the frames that arrive: they are of items and columns that it hears,
   -- and aren't strange.
   pub may_turn : MayTurn (reported g w (dispatcher_at c a) time) []
       (frames_now g w c (reported g w (dispatcher_at c a) time) time)
   may_turn =
-      let d = reported g w (dispatcher_at c a) time in
-      let frames = frames_now g w c d time in
+      let after_reports = reported g w (dispatcher_at c a) time in
+      let frames = frames_now g w c after_reports time in
       record {
         time = time;
         comes = next_ready;
-        ends = All-nil (EndsAt d time);
-        arrive = All-weaker (Contains frames) (ArrivesAt d time) (λ f h.
-            let p = frame_parts k c r.holds a l d table_ready time f h in
+        ends = All-nil (EndsAt after_reports time);
+        arrive = All-weaker (Contains frames) (ArrivesAt after_reports time) (λ f there.
+            let parts = frame_parts played c reached.holds a within after_reports table_ready time f there in
             record {
-              there = frame_column k c r.holds a l d table_ready time f p;
-              arrives = frame_time k c r.holds a l d table_ready time f p;
+              there = frame_column played c reached.holds a within after_reports table_ready time f parts;
+              arrives = frame_time played c reached.holds a within after_reports table_ready time f parts;
             }) frames (All-contains_itself frames);
       }
 
   -- its table says of each of its processes what the graph says
   pub own_known : All (IsOwnOf g) (dispatcher_at c a).table.own
-  own_known = subst (All (IsOwnOf g)) (sym (ap (λ (d : Dispatcher). d.table.own) (r.holds a l).is))
-      (All-weaker (Contains (own_of_node g a)) (IsOwnOf g) (λ o h.
-      let q = Contains-map_parts (own_process g) (processes_on g a) o h in
-      let p = Contains-filter_parts (λ p. node_of g p == a) (numbers_below (process_count g)) q.0 q.1 in
-      subst (IsOwnOf g) q.2 (record { known = numbers-Contains (process_count g) q.0 p.0; condition = refl }))
+  own_known = subst (All (IsOwnOf g)) (sym (ap (λ (d : Dispatcher). d.table.own) (reached.holds a within).is))
+      (All-weaker (Contains (own_of_node g a)) (IsOwnOf g) (λ o there.
+      let process = Contains-map_parts (own_process g) (processes_on g a) o there in
+      let kept = Contains-filter_parts (λ p. node_of g p == a) (numbers_below (process_count g)) process.0 process.1 in
+      subst (IsOwnOf g) process.2 (record
+      { known = numbers-Contains (process_count g) process.0 kept.0; condition = refl }))
       (own_of_node g a) (All-contains_itself (own_of_node g a)))

@@ -13,8 +13,8 @@ gathered f xs bs = flat_map (λ cs. cs) (zip_with f xs bs)
 next : {A B C : Type 0} (f : A → B → List C) (xs : List A) (bs : List B) (n : ℕ) (x : A) (b : B) (given : List C) →
     n < length xs → n < length bs → given ≡ f (get_or xs n x) (get_or bs n b) →
     gathered f (drop n xs) (drop n bs) ≡ given ++ gathered f (drop (n + 1) xs) (drop (n + 1) bs)
-next f xs bs n x b given h k is =
-    ap₂ (gathered f) (drop_more xs n x h) (drop_more bs n b k)
+next f xs bs n x b given within inside is =
+    ap₂ (gathered f) (drop_more xs n x within) (drop_more bs n b inside)
     ∙ ap (λ cs. cs ++ gathered f (drop (n + 1) xs) (drop (n + 1) bs)) (sym is)
 
 -- if what place `n` gives is added to what was gathered, `old`, that and what is left are the same `whole` as before
@@ -22,19 +22,19 @@ pub gathered_on : {A B C : Type 0} (f : A → B → List C) (xs : List A) (bs : 
     (given old new whole : List C) → n < length xs → n < length bs → given ≡ f (get_or xs n x) (get_or bs n b) →
     new ≡ old ++ given → old ++ gathered f (drop n xs) (drop n bs) ≡ whole →
     new ++ gathered f (drop (n + 1) xs) (drop (n + 1) bs) ≡ whole
-gathered_on f xs bs n x b given old new whole h k is more before =
+gathered_on f xs bs n x b given old new whole within inside is more before =
     let rest = gathered f (drop (n + 1) xs) (drop (n + 1) bs) in
     ap (λ cs. cs ++ rest) more ∙ append_assoc old given rest
-    ∙ sym (ap (λ cs. old ++ cs) (next f xs bs n x b given h k is)) ∙ before
+    ∙ sym (ap (λ cs. old ++ cs) (next f xs bs n x b given within inside is)) ∙ before
 
 -- what place `n` gives has room behind what was gathered, `old`, wherever the whole has
 pub gathered_fits : {A B C : Type 0} (f : A → B → List C) (xs : List A) (bs : List B) (n : ℕ) (x : A) (b : B)
     (given old whole : List C) (room : ℕ) → n < length xs → n < length bs →
     given ≡ f (get_or xs n x) (get_or bs n b) → old ++ gathered f (drop n xs) (drop n bs) ≡ whole →
     length whole ≤ room → length old + length given ≤ room
-gathered_fits f xs bs n x b given old whole room h k is before few =
+gathered_fits f xs bs n x b given old whole room within inside is before few =
     let rest = gathered f (drop (n + 1) xs) (drop (n + 1) bs) in
-    let left = next f xs bs n x b given h k is in
+    let left = next f xs bs n x b given within inside is in
     omega (
       arith,
       ap length (sym (ap (λ cs. old ++ cs) left) ∙ before),
@@ -50,10 +50,10 @@ pub mapped_on : {A B C D : Type 0} (g : C → D) (f : A → B → List C) (xs : 
     given ≡ f (get_or xs n x) (get_or bs n b) → new ≡ old ++ map g given →
     old ++ map g (gathered f (drop n xs) (drop n bs)) ≡ whole →
     new ++ map g (gathered f (drop (n + 1) xs) (drop (n + 1) bs)) ≡ whole
-mapped_on g f xs bs n x b given old new whole h k is more before =
+mapped_on g f xs bs n x b given old new whole within inside is more before =
     let rest = gathered f (drop (n + 1) xs) (drop (n + 1) bs) in
     ap (λ ds. ds ++ map g rest) more ∙ append_assoc old (map g given) (map g rest)
-    ∙ sym (ap (λ cs. old ++ map g cs) (next f xs bs n x b given h k is)
+    ∙ sym (ap (λ cs. old ++ map g cs) (next f xs bs n x b given within inside is)
     ∙ ap (λ ds. old ++ ds) (map-append g given rest)) ∙ before
 
 -- what `g` makes of place `n` has room behind `old` wherever the whole has
@@ -61,9 +61,9 @@ pub mapped_fits : {A B C D : Type 0} (g : C → D) (f : A → B → List C) (xs 
     (given : List C) (old whole : List D) (room : ℕ) → n < length xs → n < length bs →
     given ≡ f (get_or xs n x) (get_or bs n b) → old ++ map g (gathered f (drop n xs) (drop n bs)) ≡ whole →
     length whole ≤ room → length old + length given ≤ room
-mapped_fits g f xs bs n x b given old whole room h k is before few =
+mapped_fits g f xs bs n x b given old whole room within inside is before few =
     let rest = gathered f (drop (n + 1) xs) (drop (n + 1) bs) in
-    let left = ap (λ cs. old ++ map g cs) (next f xs bs n x b given h k is)
+    let left = ap (λ cs. old ++ map g cs) (next f xs bs n x b given within inside is)
     ∙ ap (λ ds. old ++ ds) (map-append g given rest) in
     omega (
       arith,

@@ -37,8 +37,8 @@ use Rattle.cpg_cluster.proofs.Stepping.{tables_of, play_of}
 
 -- the member at place `i` of the list `ms`
 get_member : (ms : List Member) (i : ℕ) → i < length ms → Member
-get_member [] i l = absurd (omega arith)
-get_member (m ∷ ms) i l = m
+get_member [] i within = absurd (omega arith)
+get_member (m ∷ ms) i within = m
 
 -- if the first `n` nodes are open, and member `m` is open as node `n` with its table, the first `n + 1` nodes are open
 pub open_more : (g : Graph) (tables : List NodeTable) (n : ℕ) (ms : List Member) (m : Member) → AreOpen g tables n ms →
@@ -73,13 +73,15 @@ open_next g tables n number after t rest ms m a left is next o =
 -- by valid tables node `i` hears only items of the graph
 pub hears_items : (g : Graph) (tables : List NodeTable) → IsValid g tables → (i : ℕ) → i < length tables →
     HearsItems g (table_at tables i)
-hears_items g tables v i l = subst (All (λ (row : Row). row.item < item_count g))
-    (sym (v.hears i (table_at tables i) (slice_get-get_or tables i empty_table l)))
-    (All-weaker (Contains (hear_rows g tables i)) (λ (row : Row). row.item < item_count g) (λ row c.
-    let q = Contains-map_parts (hear_row g tables)
-    (filter (λ x. is_heard_by g i (item_at g x)) (numbers_below (item_count g))) row c in
-    let p = Contains-filter_parts (λ x. is_heard_by g i (item_at g x)) (numbers_below (item_count g)) q.0 q.1 in
-    subst (λ (row : Row). row.item < item_count g) q.2 (numbers-Contains (item_count g) q.0 p.0)) (hear_rows g tables i)
+hears_items g tables valid i within = subst (All (λ (row : Row). row.item < item_count g))
+    (sym (valid.hears i (table_at tables i) (slice_get-get_or tables i empty_table within)))
+    (All-weaker (Contains (hear_rows g tables i)) (λ (row : Row). row.item < item_count g) (λ row listed.
+    let item = Contains-map_parts (hear_row g tables)
+    (filter (λ x. is_heard_by g i (item_at g x)) (numbers_below (item_count g))) row listed in
+    let kept = Contains-filter_parts (λ x. is_heard_by g i (item_at g x))
+    (numbers_below (item_count g)) item.0 item.1 in
+    subst (λ (row : Row). row.item < item_count g) item.2 (numbers-Contains (item_count g) item.0 kept.0))
+    (hear_rows g tables i)
     (All-contains_itself (hear_rows g tables i)))
 
 -- given the members of a graph's tables before their first turns
@@ -88,26 +90,28 @@ module _ (g : Graph) (tables : List NodeTable) (w : World) (within : IsWithinLim
   -- the dispatcher of member `i` is that of its table before the first turn
   table_here : (i : ℕ) (d : Member) → i < length tables →
       (get_or ms i d).node.dispatcher ≡ initial_dispatcher (table_at tables i)
-  table_here i d l = ap (λ (s : NodeState). s.dispatcher) (open'.each i d l).node
+  table_here i d inside = ap (λ (s : NodeState). s.dispatcher) (open'.each i d inside).node
 
   -- the members have these tables
   pub tables_are : tables_of ms ≡ tables
   tables_are =
       same_lists (tables_of ms) tables (length-map ms (λ (m : Member). m.node.dispatcher.table) ∙ open'.count) (λ i t l.
-      let k : i < length ms = omega (arith, l, length-map ms (λ (m : Member). m.node.dispatcher.table)) in
-      get_or-map (λ (m : Member). m.node.dispatcher.table) ms i (get_member ms i k) t k
-      ∙ ap (λ (d : Dispatcher). d.table) (table_here i (get_member ms i k) (omega (arith, k, open'.count)))
-      ∙ get_or_default tables i empty_table t (omega (arith, k, open'.count)))
+      let in_members : i < length ms = omega (arith, l, length-map ms (λ (m : Member). m.node.dispatcher.table)) in
+      get_or-map (λ (m : Member). m.node.dispatcher.table) ms i (get_member ms i in_members) t in_members
+      ∙ ap (λ (d : Dispatcher). d.table)
+      (table_here i (get_member ms i in_members) (omega (arith, in_members, open'.count)))
+      ∙ get_or_default tables i empty_table t (omega (arith, in_members, open'.count)))
 
   -- the dispatchers of the members are those of the tables, before any turn
   nodes_are : (cluster_of ms).nodes ≡ dispatchers_from g 0 tables
   nodes_are = same_lists (cluster_of ms).nodes (dispatchers_from g 0 tables)
       (length-map ms (λ (m : Member). m.node.dispatcher) ∙ open'.count ∙ sym (dispatchers_count g 0 tables)) (λ i d l.
-      let k : i < length ms = omega (arith, l, length-map ms (λ (m : Member). m.node.dispatcher)) in
-      let t : i < length tables = omega (arith, k, open'.count) in
-      get_or-map (λ (m : Member). m.node.dispatcher) ms i (get_member ms i k) d k ∙ table_here i (get_member ms i k) t
-      ∙ ap initial_dispatcher (sym (own_is g tables within of i t)) ∙
-      sym (dispatchers_at g 0 tables i i d empty_table t (omega arith)))
+      let in_members : i < length ms = omega (arith, l, length-map ms (λ (m : Member). m.node.dispatcher)) in
+      let has_table : i < length tables = omega (arith, in_members, open'.count) in
+      get_or-map (λ (m : Member). m.node.dispatcher) ms i (get_member ms i in_members) d in_members
+      ∙ table_here i (get_member ms i in_members) has_table
+      ∙ ap initial_dispatcher (sym (own_is g tables within of i has_table)) ∙
+      sym (dispatchers_at g 0 tables i i d empty_table has_table (omega arith)))
 
   -- if `f`, for example the acts, gives an empty list for each member, the lists of all are those of the state before
   -- the first turns
@@ -115,10 +119,10 @@ module _ (g : Graph) (tables : List NodeTable) (w : World) (within : IsWithinLim
       map f ms ≡ replicate (length tables) []
   none_are f h = same_lists (map f ms) (replicate (length tables) [])
       (length-map ms f ∙ open'.count ∙ sym (length-replicate (length tables) [])) (λ i d l.
-      let k : i < length ms = omega (arith, l, length-map ms f) in
-      let t : i < length tables = omega (arith, k, open'.count) in
-      get_or-map f ms i (get_member ms i k) d k ∙ h i (get_member ms i k) t
-      ∙ sym (get_or-replicate (length tables) i [] d t))
+      let in_members : i < length ms = omega (arith, l, length-map ms f) in
+      let has_table : i < length tables = omega (arith, in_members, open'.count) in
+      get_or-map f ms i (get_member ms i in_members) d in_members ∙ h i (get_member ms i in_members) has_table
+      ∙ sym (get_or-replicate (length tables) i [] d has_table))
 
   -- the members' state is the one before the first turns
   pub cluster_is : cluster_of ms ≡ initial_cluster g tables
@@ -135,41 +139,63 @@ module _ (g : Graph) (tables : List NodeTable) (w : World) (within : IsWithinLim
 
   -- in a world of the graph, it is a play of valid tables
   pub playing_open : WellFormed g → IsValid g tables → IsWorld g w → IsPlaying (play_of g w ms)
-  playing_open f v o = subst IsPlaying (sym play_is)
-      (record { limits = within; formed = f; lawful = of; shape = has_shape g within tables of; valid = v; world = o; played = played_open g tables w })
+  playing_open f v possible = subst IsPlaying (sym play_is)
+      (record {
+        limits = within;
+        formed = f;
+        lawful = of;
+        shape = has_shape g within tables of;
+        valid = v;
+        world = possible;
+        played = played_open g tables w;
+      })
 
   -- each member keeps what it should, and has the room for a play
   pub fits_open : AllFit g ms
   fits_open i d l =
-      let o = open'.each i d (omega (arith, l, open'.count)) in
-      let t : (get_or ms i d).node.dispatcher.table ≡ table_at tables i =
-      ap (λ (s : NodeState). s.dispatcher.table) o.node in
+      let opened = open'.each i d (omega (arith, l, open'.count)) in
+      let same_table : (get_or ms i d).node.dispatcher.table ≡ table_at tables i =
+      ap (λ (s : NodeState). s.dispatcher.table) opened.node in
       record {
-        senders = o.senders ∙ ap (λ (t : NodeTable). map (λ (row : Row). home g row.item) t.hears) (sym t);
-        slot = o.slot;
+        senders = opened.senders ∙ ap (λ (t : NodeTable). map (λ (row : Row). home g row.item)
+            t.hears) (sym same_table);
+        slot = opened.slot;
         arrivals = subst (λ (t : NodeTable). AreIndexed t.hears (get_or ms i d).senders.items (length g.nodes)
-            (get_or ms i d).arrivals.items) (sym t) o.arrivals;
-        noted = o.noted ∙ ap (noted_of (item_count g)) (sym o.acts);
-        acts = omega (arith, o.acts_room, ap (λ (t : NodeTable). length t.sends + length t.starts) t);
-        ends = omega (arith, o.ends_room, ap (λ (t : NodeTable). length t.own) t);
-        reports = omega (arith, o.reports_room, ap (λ (t : NodeTable). length t.own) t);
+            (get_or ms i d).arrivals.items) (sym same_table) opened.arrivals;
+        noted = opened.noted ∙ ap (noted_of (item_count g)) (sym opened.acts);
+        acts = omega (arith, opened.acts_room, ap (λ (t : NodeTable). length t.sends + length t.starts) same_table);
+        ends = omega (arith, opened.ends_room, ap (λ (t : NodeTable). length t.own) same_table);
+        reports = omega (arith, opened.reports_room, ap (λ (t : NodeTable). length t.own) same_table);
       }
 
 -- valid tables play correctly
 pub correct_open : (g : Graph) (tables : List NodeTable) → IsWithinLimits g → AreTablesOf (head_of g) tables →
     WellFormed g → IsValid g tables →
     IsCorrect g tables
-correct_open g tables within of f v = valid_tables_are_correct g tables f (has_shape g within tables of) v
+correct_open g tables within of formed valid = valid_tables_are_correct g tables formed
+    (has_shape g within tables of) valid
 
 -- a scenario `s` with its full lengths is a world, as a duration is at least 1
 pub full_world : (g : Graph) (s : Scenario) → WellFormed g → IsScenario g s →
     IsWorld g (record { scenario = s; lengths = full_lengths g s })
-full_world g s f is = record {
+full_world g s formed is = record {
   scenario = is;
   count = length-map (numbers_below (process_count g)) (λ p. duration g p (fault_of s p))
       ∙ length-range_with_len 0 (process_count g);
-  lengths = λ p l. let at = get_or-map-below (λ p. duration g p (fault_of s p)) (process_count g) p 0 l in
-      let work = f.works p
-      (record { name = []; node = 0; wcet = 0; parts = 1; alpha = 0; chi = 0; mu = 0; join = false; frozen = false; release = 0; deadline = None }) l in
+  lengths = λ p less. let at = get_or-map-below (λ p. duration g p (fault_of s p)) (process_count g) p 0 less in
+      let work = formed.works p
+      (record {
+        name = [];
+        node = 0;
+        wcet = 0;
+        parts = 1;
+        alpha = 0;
+        chi = 0;
+        mu = 0;
+        join = false;
+        frozen = false;
+        release = 0;
+        deadline = None;
+      }) less in
       (omega (arith, at, work), omega (arith, at));
 }

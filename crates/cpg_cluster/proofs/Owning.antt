@@ -12,13 +12,13 @@ use Rattle.cpg_cluster.specs.Cluster.{own_table}
 pub own_is : (g : Graph) (tables : List NodeTable) → IsWithinLimits g → AreTablesOf (head_of g) tables → (i : ℕ) →
     i < length tables →
     own_table g i (table_at tables i) ≡ table_at tables i
-own_is g tables within of i l =
-    let s = suits_graph g within tables of i (let many : length tables ≡ length g.nodes = of.count in
-    omega (arith, l, many)) in
+own_is g tables within of i inside =
+    let suits = suits_graph g within tables of i (let many : length tables ≡ length g.nodes = of.count in
+    omega (arith, inside, many)) in
     λ j. record {
-      faults = sym s.faults j;
-      first_broadcast = sym s.first_broadcast j;
-      own = sym s.own j;
+      faults = sym suits.faults j;
+      first_broadcast = sym suits.first_broadcast j;
+      own = sym suits.own j;
       starts = (table_at tables i).starts;
       sends = (table_at tables i).sends;
       hears =

@@ -27,15 +27,18 @@ use Rattle.cpg_cluster.proofs.Reporting.{HasReported}
 
 -- what holds of each element and each later one, by recursion, holds of all pairs of places; by induction on `xs`
 pairs_of : {X : Type 0} (R : X → X → Type 0) (xs : List X) → Rises R xs → AllPairs R xs
-pairs_of R [] h = λ i j d l m. absurd (omega arith)
-pairs_of R (x ∷ xs) h = AllPairs-cons_by R x xs h.0 (pairs_of R xs h.1)
+pairs_of R [] rising = λ i j d l m. absurd (omega arith)
+pairs_of R (x ∷ xs) rising = AllPairs-cons_by R x xs rising.0 (pairs_of R xs rising.1)
 
 -- if the keys of elements differ, no two of the list of keys are equal; by induction on `xs`
 keys_apart : {X : Type 0} (key : X → ℕ) (xs : List X) → Rises (λ a b. key a ≢ key b) xs →
     Rises (λ a b. a ≢ b) (map key xs)
-keys_apart key [] h = tt
-keys_apart key (x ∷ xs) h =
-    (λ y m e. let r = Contains-map_parts key xs y m in h.0 r.0 r.1 (e ∙ sym r.2), keys_apart key xs h.1)
+keys_apart key [] differ = tt
+keys_apart key (x ∷ xs) differ = (
+  λ y there same_key. let other = Contains-map_parts key xs y there in
+      differ.0 other.0 other.1 (same_key ∙ sym other.2),
+  keys_apart key xs differ.1,
+)
 
 -- if the keys of `xs` differ, and each is in `ys`, then `xs` is no longer than `ys`
 pub no_more_keys : {X : Type 0} (key : X → ℕ) (xs : List X) (ys : List ℕ) → Rises (λ a b. key a ≢ key b) xs →
@@ -45,84 +48,86 @@ no_more_keys key xs ys apart in' = omega (
   arith,
   length-map xs key,
   length-le_of_apart (map key xs) ys (pairs_of (λ a b. a ≢ b) (map key xs) (keys_apart key xs apart))
-      (λ y c. let r = Contains-map_parts key xs y c in subst (Contains ys) r.2 (in' r.0 r.1)),
+      (λ y there. let from = Contains-map_parts key xs y there in subst (Contains ys) from.2 (in' from.0 from.1)),
 )
 
 -- given a node of a play
-module _ {g : Graph} {tables : List NodeTable} {w : World} (k : Played g tables w) (node : ℕ)
-    (l : node < length g.nodes) (last : Option ℕ) where
+module _ {g : Graph} {tables : List NodeTable} {w : World} (played : Played g tables w) (node : ℕ)
+    (within : node < length g.nodes) (last : Option ℕ) where
   -- the `acts` that the node has done are of different items, as no item is asked of it twice
   pub acts_apart : (acts : List Act) → Done g tables w.scenario node last acts →
       Rises (λ (a b : Act). a.item ≢ b.item) acts
-  acts_apart acts d = Rises-weaker (Before g) (λ (a b : Act). a.item ≢ b.item) acts (λ a b m n before e.
-      let same = asked_once k.setting node a b (d.only a m).0 (d.only b n).0 e in
-      let self = subst (Before g a) (sym same) before in not_both_ways g a a self self) d.rising
+  acts_apart acts done = Rises-weaker (Before g) (λ (a b : Act). a.item ≢ b.item) acts (λ a b m n before e.
+      let same = asked_once played.setting node a b (done.only a m).0 (done.only b n).0 e in
+      let self = subst (Before g a) (sym same) before in not_both_ways g a a self self) done.rising
 
   -- there are no more acts than rows of sends and starts, as each is of a row's item
   pub acts_few : (acts : List Act) → Done g tables w.scenario node last acts →
       length acts ≤ length (table_at tables node).sends + length (table_at tables node).starts
-  acts_few acts d =
+  acts_few acts done =
       let rows = (table_at tables node).starts ++ (table_at tables node).sends in
       omega (
         arith,
         length-append (table_at tables node).starts (table_at tables node).sends,
         length-map rows (λ (row : Row). row.item),
-        no_more_keys (λ (a : Act). a.item) acts (map (λ (row : Row). row.item) rows) (acts_apart acts d)
-            (λ a m. let r = row_of k.setting.formed k.setting.shape node a.item l (d.only a m).0.row in
-            subst (Contains (map (λ (row : Row). row.item) rows)) r.2
-            (Contains-map (λ (row : Row). row.item) rows r.0 r.1)),
+        no_more_keys (λ (a : Act). a.item) acts (map (λ (row : Row). row.item) rows) (acts_apart acts done)
+            (λ a m. let row = row_of played.setting.formed played.setting.shape node a.item
+            within (done.only a m).0.row in
+            subst (Contains (map (λ (this_row : Row). this_row.item) rows)) row.2
+            (Contains-map (λ (this_row : Row). this_row.item) rows row.0 row.1)),
       )
 
   -- there are no more ends than processes of the node, as they are of different ones
   pub ends_few : (ends : List (ℕ × Ended)) → HasEnded g tables w.scenario node last ends →
       length ends ≤ length (processes_on g node)
-  ends_few ends d = no_more_keys (λ (q : ℕ × Ended). q.1.process) ends (processes_on g node)
+  ends_few ends ended = no_more_keys (λ (q : ℕ × Ended). q.1.process) ends (processes_on g node)
       (Rises-weaker EndsBefore (λ (a b : ℕ × Ended). a.1.process ≢ b.1.process) ends
-      (λ a b m n before e. differ a b (d.only a m).0 (d.only b n).0 e before) d.rising)
-      (λ q m. let p = (d.only q m).0 in
-      subst (Contains (processes_on g node)) (ap (λ (e : Ended). e.process) p.is) p.on)
+      (λ a b m n before e. differ a b (ended.only a m).0 (ended.only b n).0 e before) ended.rising)
+      (λ report m. let reported = (ended.only report m).0 in
+      subst (Contains (processes_on g node)) (ap (λ (e : Ended). e.process) reported.is) reported.on)
     where
       -- planned ends `a` and `b` of one process are at the same time, since one column of it matches, so neither is
       -- before the other
       differ : (a b : ℕ × Ended) → Planned g tables w.scenario node a → Planned g tables w.scenario node b →
           a.1.process ≡ b.1.process → EndsBefore a b → ⊥
-      differ a b p q e before =
-          let same : p.process ≡ q.process =
-          ap (λ (e : Ended). e.process) p.is ∙ e ∙ sym (ap (λ (e : Ended). e.process) q.is) in
-          let one = match_once k.setting q.process p.column q.column
-          (subst (λ x. Match tables w.scenario x p.column) same p.match) q.match in
+      differ a b plan_a plan_b same_process before =
+          let same : plan_a.process ≡ plan_b.process =
+          ap (λ (e : Ended). e.process) plan_a.is ∙ same_process ∙ sym (ap (λ (e : Ended). e.process) plan_b.is) in
+          let one = match_once played.setting plan_b.process plan_a.column plan_b.column
+          (subst (λ x. Match tables w.scenario x plan_a.column) same plan_a.match) plan_b.match in
           let times : a.0 ≡ b.0 =
-          sym p.time ∙ (λ i. (one i).time + duration g (same i) (fault_of w.scenario (same i))) ∙ q.time in
-          elim before [ inl less ↦ omega arith | inr r ↦ omega (arith, r.1, e) ]
+          sym plan_a.time ∙ (λ i. (one i).time + duration g (same i) (fault_of w.scenario (same i))) ∙ plan_b.time in
+          elim before [ inl less ↦ omega arith | inr r ↦ omega (arith, r.1, same_process) ]
 
   -- there are no more reports than processes of the node, as they are of different ones
   pub reports_few : (reports : List (ℕ × Ended)) → HasReported g tables w node last reports →
       length reports ≤ length (processes_on g node)
   reports_few reports d = no_more_keys (λ (q : ℕ × Ended). q.1.process) reports (processes_on g node) d.apart
-      (λ q m. let p = (d.only q m).0 in subst (Contains (processes_on g node)) (sym p.is) p.on)
+      (λ report m. let reported = (d.only report m).0 in
+      subst (Contains (processes_on g node)) (sym reported.is) reported.on)
 
 -- Frames: at most one of each row.
 
 -- of acts of different items, at most one is of an item; by induction on `acts`
 one_item : (test : Act → Bool) (x : ℕ) (acts : List Act) → Rises (λ (a b : Act). a.item ≢ b.item) acts →
     length (filter (λ (a : Act). (a.item == x) && test a) acts) ≤ 1
-one_item test x [] r = omega arith
-one_item test x (a ∷ acts) r = elim (cases_Bool ((a.item == x) && test a)) [
+one_item test x [] rising = omega arith
+one_item test x (a ∷ acts) rising = elim (cases_Bool ((a.item == x) && test a)) [
   -- the first act is of the item, so none of the others is
-  | inl t ↦ omega (
+  | inl holds ↦ omega (
     arith,
     ap (λ (l : List Act). length l) (cond-true _ (a ∷ filter (λ (a : Act). (a.item == x) && test a) acts)
-        (filter (λ (a : Act). (a.item == x) && test a) acts) t),
+        (filter (λ (a : Act). (a.item == x) && test a) acts) holds),
     ap (λ (l : List Act). length l) (filter_none (λ (a : Act). (a.item == x) && test a) acts
         (λ b m. and_left (b.item == x) (test b)
-        (ne_eqb b.item x (λ e. r.0 b m (eqb-true a.item x (and_parts (a.item == x) (test a) t).0 ∙ sym e))))),
+        (ne_eqb b.item x (λ e. rising.0 b m (eqb-true a.item x (and_parts (a.item == x) (test a) holds).0 ∙ sym e))))),
   )
   -- it isn't counted
-  | inr f ↦ omega (
+  | inr fails ↦ omega (
     arith,
     ap (λ (l : List Act). length l) (cond-false _ (a ∷ filter (λ (a : Act). (a.item == x) && test a) acts)
-        (filter (λ (a : Act). (a.item == x) && test a) acts) f),
-    one_item test x acts r.1,
+        (filter (λ (a : Act). (a.item == x) && test a) acts) fails),
+    one_item test x acts rising.1,
   )
 ]
 
@@ -133,27 +138,29 @@ few_in_all f [] h = omega arith
 few_in_all f (x ∷ xs) h = omega (arith, length-append (f x) (flat_map f xs), h x, few_in_all f xs h)
 
 -- at most one frame of each hear row arrives at a time, so there are no more frames than dispatcher `d` has hear rows
-pub frames_few : {g : Graph} {tables : List NodeTable} {w : World} (k : Played g tables w) (c : Cluster)
-    (r : Reached g tables w c) (d : Dispatcher) (time : ℕ) →
+pub frames_few : {g : Graph} {tables : List NodeTable} {w : World} (played : Played g tables w) (c : Cluster)
+    (reached : Reached g tables w c) (d : Dispatcher) (time : ℕ) →
     length (frames_now g w c d time) ≤ length d.table.hears
-frames_few {g = g} {tables = tables} {w = w} k c r d time = few_in_all (frames_of_row g w c time) d.table.hears
+frames_few {g = g} {tables = tables} {w = w} played c reached d time = few_in_all
+    (frames_of_row g w c time) d.table.hears
     (λ row. row_few row (get_or c.acts (home g row.item) []) (apart (home g row.item)))
   where
     -- the acts that `node` has done are of different items
     apart : (node : ℕ) → Rises (λ (a b : Act). a.item ≢ b.item) (get_or c.acts node [])
     apart node = elim (cases_lt node (length g.nodes)) [
-      | inl l ↦ let n = r.holds node l in acts_apart k node l n.last (get_or c.acts node []) n.done
+      | inl within ↦ let state = reached.holds node within in
+          acts_apart played node within state.last (get_or c.acts node []) state.done
       | inr past ↦ subst (Rises (λ (a b : Act). a.item ≢ b.item))
-          (sym (get_or_past c.acts node [] (omega (arith, past, r.acts)))) tt
+          (sym (get_or_past c.acts node [] (omega (arith, past, reached.acts)))) tt
     ]
 
     -- if `acts` are of different items, at most one frame of the hear row `row` arrives at the time
     row_few : (row : Row) (acts : List Act) → Rises (λ (a b : Act). a.item ≢ b.item) acts →
         length (map (λ act. frame_of_item w (item_at g row.item) act) (filter
         (λ (act : Act). (act.item == row.item) && (act.time + slot_length g (home g row.item) == time)) acts)) ≤ 1
-    row_few row acts a = omega (
+    row_few row acts rising = omega (
       arith,
       length-map (filter (λ (act : Act). (act.item == row.item) && (act.time + slot_length g (home g row.item) == time))
           acts) (λ act. frame_of_item w (item_at g row.item) act),
-      one_item (λ (act : Act). act.time + slot_length g (home g row.item) == time) row.item acts a,
+      one_item (λ (act : Act). act.time + slot_length g (home g row.item) == time) row.item acts rising,
     )

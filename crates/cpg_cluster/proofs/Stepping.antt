@@ -47,11 +47,11 @@ play_of g w ms = record { graph = g; tables = tables_of ms; world = w; cluster =
 
 -- Given one of the members of a play, each of which keeps what it should.
 -- The member m is at the place a of the list (`at`, `l`).
-module _ (g : Graph) (w : World) (ms : List Member) (p : IsPlaying (play_of g w ms)) (fits : AllFit g ms) (a : ℕ)
+module _ (g : Graph) (w : World) (ms : List Member) (playing : IsPlaying (play_of g w ms)) (fits : AllFit g ms) (a : ℕ)
     (m : Member) (at : m ≡ get_or ms a m) (l : a < length ms) where
   -- the tables of the members are valid, and the world is one of the graph
   k : Played g (tables_of ms) w
-  k = played_of g (tables_of ms) p.formed p.shape p.valid w p.world
+  k = played_of g (tables_of ms) playing.formed playing.shape playing.valid w playing.world
 
   -- the state of the members
   c : Cluster
@@ -59,11 +59,11 @@ module _ (g : Graph) (w : World) (ms : List Member) (p : IsPlaying (play_of g w 
 
   -- the state is one that a play reaches
   r : Reached g (tables_of ms) w (cluster_of ms)
-  r = played_reached k (cluster_of ms) p.played
+  r = played_reached k (cluster_of ms) playing.played
 
   -- the member is a node of the graph
   on : a < length g.nodes
-  on = omega (arith, l, p.shape.count, length-map ms (λ (m : Member). m.node.dispatcher.table))
+  on = omega (arith, l, playing.shape.count, length-map ms (λ (m : Member). m.node.dispatcher.table))
 
   -- the member is at its place, whatever the default is
   here : (d : Member) → get_or ms a d ≡ m
@@ -85,18 +85,18 @@ module _ (g : Graph) (w : World) (ms : List Member) (p : IsPlaying (play_of g w 
   -- the arrivals are indexed for each member
   pub indexed : AreIndexed m.node.dispatcher.table.hears m.senders.items (length ms) m.arrivals.items
   indexed =
-      let e : length g.nodes ≡ length ms =
-      omega (arith, p.shape.count, length-map ms (λ (m : Member). m.node.dispatcher.table)) in
-      subst (λ n. AreIndexed m.node.dispatcher.table.hears m.senders.items n m.arrivals.items) e
+      let count : length g.nodes ≡ length ms =
+      omega (arith, playing.shape.count, length-map ms (λ (m : Member). m.node.dispatcher.table)) in
+      subst (λ n. AreIndexed m.node.dispatcher.table.hears m.senders.items n m.arrivals.items) count
       (subst (Fits g a) (here m) (fits a m l)).arrivals
 
   -- if it has no next instant, it answers that it is done
   pub done_answer : next m.node.dispatcher ≡ None → Done ≡ answer g (cluster_of ms) a
-  done_answer e = sym (ap (answer_at g (cluster_of ms) a) (ap next at_is ∙ e))
+  done_answer no_next = sym (ap (answer_at g (cluster_of ms) a) (ap next at_is ∙ no_next))
 
   -- if it has no next instant, nothing changes
   pub done_step : next m.node.dispatcher ≡ None → step g w (cluster_of ms) a ≡ cluster_of ms
-  done_step e = (λ i. step_by g w (cluster_of ms) a ((sym (done_answer e)) i) ((ap next at_is ∙ e) i))
+  done_step no_next = (λ i. step_by g w (cluster_of ms) a ((sym (done_answer no_next)) i) ((ap next at_is ∙ no_next) i))
 
   -- given its next instant
   module _ (time : ℕ) (comes : next m.node.dispatcher ≡ Some time) where
@@ -108,11 +108,11 @@ module _ (g : Graph) (w : World) (ms : List Member) (p : IsPlaying (play_of g w 
     pub asked : (ans : Answer) (d : Member) →
         ans ≡ answer_by (filter (λ b. waits_between time m b (get_or ms b d)) (numbers_below (length ms))) →
         ans ≡ answer g (cluster_of ms) a
-    asked ans d e = e ∙ answer_is g ms fits a m here l time d ∙ sym (ap (answer_at g (cluster_of ms) a) next_at)
+    asked ans d is = is ∙ answer_is g ms fits a m here l time d ∙ sym (ap (answer_at g (cluster_of ms) a) next_at)
 
     -- if it waits, nothing changes
     pub waits_step : (b : ℕ) → Waits b ≡ answer g (cluster_of ms) a → step g w (cluster_of ms) a ≡ cluster_of ms
-    waits_step b e = (λ i. step_by g w (cluster_of ms) a ((sym e) i) (next_at i))
+    waits_step b is = (λ i. step_by g w (cluster_of ms) a ((sym is) i) (next_at i))
 
     -- its table says of each of its processes what the graph says
     pub own_all : All (IsOwnOf g) m.node.dispatcher.table.own
@@ -133,7 +133,7 @@ module _ (g : Graph) (w : World) (ms : List Member) (p : IsPlaying (play_of g w 
     gathered : (fs : List Frame) →
         fs ≡ frames_by g w.scenario.values ms time m.node.dispatcher.table.hears m.senders.items →
         fs ≡ frames_now g w (cluster_of ms) (reported g w (dispatcher_at (cluster_of ms) a) time) time
-    gathered fs e = e ∙ frames_are g ms fits a m here l w time (reported g w (dispatcher_at (cluster_of ms) a) time)
+    gathered fs is = is ∙ frames_are g ms fits a m here l w time (reported g w (dispatcher_at (cluster_of ms) a) time)
         (table_finished (dispatcher_at (cluster_of ms) a)
         (map (λ (q : ℕ × Ended). q.1) (reports_now g w (dispatcher_at (cluster_of ms) a) time))
         ∙ ap (λ (d : Dispatcher). d.table) at_is)
@@ -178,7 +178,8 @@ module _ (g : Graph) (w : World) (ms : List Member) (p : IsPlaying (play_of g w 
         -- the state after the turn is one of a play
         played' : IsPlayed g (tables_of ms) w (take_turn g w (cluster_of ms) a time)
         played' =
-            subst (IsPlayed g (tables_of ms) w) step_is (played_step g (tables_of ms) w (cluster_of ms) a p.played)
+            subst (IsPlayed g (tables_of ms) w) step_is
+            (played_step g (tables_of ms) w (cluster_of ms) a playing.played)
 
         -- so `Reached` holds of it
         r' : Reached g (tables_of ms) w (take_turn g w (cluster_of ms) a time)
@@ -317,14 +318,14 @@ module _ (g : Graph) (w : World) (ms : List Member) (p : IsPlaying (play_of g w 
           pub playing_then : IsPlaying (play_of g w (set ms a n))
           playing_then = subst IsPlaying (sym play_then)
               (record {
-                limits = p.limits;
-                formed = p.formed;
-                lawful = p.lawful;
-                shape = p.shape;
-                valid = p.valid;
-                world = p.world;
+                limits = playing.limits;
+                formed = playing.formed;
+                lawful = playing.lawful;
+                shape = playing.shape;
+                valid = playing.valid;
+                world = playing.world;
                 played =
-                    played_step g (tables_of ms) w (cluster_of ms) a p.played;
+                    played_step g (tables_of ms) w (cluster_of ms) a playing.played;
               })
 
           -- after its turn the member still keeps what it should
@@ -361,12 +362,12 @@ module _ (g : Graph) (w : World) (ms : List Member) (p : IsPlaying (play_of g w 
           -- no member then hears more rows than before
           pub heard_then : (most : ℕ) → All (λ (m : Member). length m.node.dispatcher.table.hears ≤ most) ms →
               All (λ (m : Member). length m.node.dispatcher.table.hears ≤ most) (set ms a n)
-          heard_then most h = All-set (λ (m : Member). length m.node.dispatcher.table.hears ≤ most) ms a n
+          heard_then most all = All-set (λ (m : Member). length m.node.dispatcher.table.hears ≤ most) ms a n
               (omega (
                 arith,
                 ap (λ (t : NodeTable). length t.hears) table_then,
-                subst (λ (m : Member). length m.node.dispatcher.table.hears ≤ most) (sym at) (h a m l),
-              )) h
+                subst (λ (m : Member). length m.node.dispatcher.table.hears ≤ most) (sym at) (all a m l),
+              )) all
 
           -- all nodes together have fewer instants left
           pub nearer_then : remaining (cluster_of (set ms a n)) < remaining (cluster_of ms)
@@ -380,5 +381,5 @@ module _ (g : Graph) (w : World) (ms : List Member) (p : IsPlaying (play_of g w 
                 length-map ms (λ (m : Member). m.node.dispatcher),
               ))
               (less_turn g w a (dispatcher_at (cluster_of ms) a) time
-              (frames_now g w (cluster_of ms) (reported g w (dispatcher_at (cluster_of ms) a) time) time) p.limits
+              (frames_now g w (cluster_of ms) (reported g w (dispatcher_at (cluster_of ms) a) time) time) playing.limits
               (ap (λ (d : Dispatcher). d.table.own) (r.holds a on).is) next_at))

@@ -39,7 +39,7 @@ pub record IsCycle (g : Graph) (tables : List NodeTable) (time : ℕ) : Type 0 w
 abbrev pub least_cycle : Graph → List NodeTable → ℕ
 least_cycle g tables = div_ceil (max (max g.deadline (last_arrival tables)) 1) (cycle_step g) * cycle_step g
 
--- it is a cycle time, and no other is less
+-- this is the least cycle time of a graph and its tables
 pub record IsLeastCycle (g : Graph) (tables : List NodeTable) (time : ℕ) : Type 0 where
   -- it is a cycle time itself
   pub is : IsCycle g tables time

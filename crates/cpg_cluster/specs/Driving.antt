@@ -60,7 +60,7 @@ AllDone g c = (node : ℕ) → node < length g.nodes → answer g c node ≡ Don
 pub record IsDriven (g : Graph) (w : World) (x : ℕ) (before after : Cluster) (waits : ℕ) : Type 0 where
   -- how many choices are made
   pub turns : ℕ
-  -- they lead to the state after, and a node has waited so often in them
+  -- they lead to the state `after`, and `waits` times in them a node answered that it waits
   pub is : driven g w turns x before ≡ (after, waits)
   -- all nodes are done then, and not all after fewer
   pub done : AllDone g after

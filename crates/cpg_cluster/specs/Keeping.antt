@@ -78,7 +78,7 @@ abbrev pub answer_if : Option ℕ → Answer
 answer_if None = Took
 answer_if (Some b) = Waits b
 
--- the notes with an act at its item
+-- the notes once an act is noted at its item, in place of any earlier one
 abbrev pub note : List (Option Act) → Act → List (Option Act)
 note noted act = slice_set noted act.item (Some act)
 
@@ -106,7 +106,7 @@ pub record Fits (g : Graph) (number : ℕ) (m : Member) : Type 0 where
   pub ends : length m.node.dispatcher.table.own ≤ vec_capacity m.ends
   pub reports : length m.node.dispatcher.table.own ≤ vec_capacity m.reports
 
--- each member, whose place is its node's number, fits
+-- each member fits as the node whose number is its place
 abbrev pub AllFit : Graph → List Member → Type 0
 AllFit g members = (i : ℕ) (d : Member) → i < length members → Fits g i (get_or members i d)
 

@@ -7,7 +7,7 @@ use Rattle.cpg_cluster.specs.Cluster.{Cluster}
 use Rattle.cpg_cluster.specs.Playing.{Playing, IsPlaying}
 use Rattle.cpg_cluster.specs.Keeping.{AllFit}
 
--- the state of the nodes and what they have done, of their members by number
+-- the state of the nodes and what they have done, taken from their members, which are by number
 abbrev pub cluster_of : List Member → Cluster
 cluster_of ms = record {
   nodes = map (λ (m : Member). m.node.dispatcher) ms;
@@ -29,7 +29,7 @@ playing_of n = record {
 pub record IsKept (n : Inside) : Type 0 where
   -- what the play is of is lawful, and some turns lead to its state
   pub playing : IsPlaying (playing_of n)
-  -- a graph has at most 16 nodes
+  -- there are at most 16 members, as a graph has at most 16 nodes
   pub few : length n.members.items ≤ 16
   -- each member keeps what its node needs
   pub members : AllFit n.problem n.members.items

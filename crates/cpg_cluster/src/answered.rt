@@ -5,11 +5,11 @@
 pub enum AskStep {
     /// The node took the turn of its next instant.
     Took,
-    /// A frame that arrives by its next instant may still be sent by another node. Nothing changed.
+    /// Another node may still send a frame that arrives by the node's next instant. Nothing changed.
     Waits {
-        /// The least node that it waits on.
+        /// The node that it waits on; of several, the one with the least number.
         on: u32,
     },
-    /// It has no next instant. Nothing changed.
+    /// The node has no next instant. Nothing changed.
     Done,
 }

@@ -8,8 +8,8 @@ use cpg_node::add_times;
 use cpg_table::Row;
 use std::alloc::Global;
 
-/// Adds the arrival times in the hear rows of sender `other`, row by row; `senders` has the sender of each row. The one
-/// error is that memory runs out.
+/// Adds to `times` the arrival times in the hear rows of sender `other`, row by row; `senders` has the sender of each
+/// row. The one error is that memory runs out.
 fn add_times_of(
     times: &mut Vec<u64>,
     rows: &[Row],
@@ -63,8 +63,8 @@ pub fn arrivals_of(
     Ok(arrivals)
 }
 
-/// Returns the place of the first time that is later than `time`, or their number if there is none. The times don't
-/// fall.
+/// Returns the place of the first of `times` that is later than `time`, or how many times there are if none is. The
+/// times don't fall.
 pub fn first_after(times: &[u64], time: u64) -> usize
     requires { IsNonDecreasingBy (λ t. t) times.now }
     ensures within { result ≤ length times.now }

@@ -72,7 +72,7 @@ fn add_sender_frames(
     ensures frames { frames.new.items ≡ frames.old.items ++ frames_of_member members.now value item time sender }
     ensures room { vec_capacity frames.new ≡ vec_capacity frames.old }
 {
-    // no other number is a sender
+    // a greater number is that of no member, so nothing is sent
     if (sender as usize) < members.len() {
         let member = &members[sender as usize];
         let noted = member.noted.as_slice();
@@ -293,7 +293,7 @@ impl Cluster {
     }
 }
 
-/// Whether some node has a next instant, so isn't done.
+/// Whether some node has a next instant, and so isn't done.
 fn is_any_left(members: &[Member]) -> bool
     ensures left { result ≡ list_any (λ m. is_some (next m.node.dispatcher)) members.now }
     ensures some { OnTrue result (0 < length members.now) }

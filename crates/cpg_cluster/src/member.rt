@@ -31,7 +31,7 @@ pub struct Member {
     /// How long its slot lasts, in time units. For a node without a slot it is the length of the first slot, and 0 if
     /// there are no slots.
     pub slot: u64,
-    /// What it has done, in order.
+    /// The acts that it has done, in order.
     pub acts: Vec<Act>,
     /// For each item of the graph, the act by which it started or sent the item, if it did.
     pub noted: Vec<Option<Act>>,

@@ -119,7 +119,7 @@ fn report_of(
     Some((running.start + length, ended))
 }
 
-/// Adds the report of an execution, if there is one.
+/// Adds to `reports` that of an execution, if there is one.
 fn add_report(report: Option<(u64, Ended)>, reports: &mut Vec<(u64, Ended)>)
     requires { vec_len reports.old + length (option_to_list report) ≤ vec_capacity reports.old }
     ensures reports { reports.new.items ≡ reports.old.items ++ option_to_list report }
@@ -206,7 +206,7 @@ pub fn gather_ends(
     }
 }
 
-/// Adds the report `end` with its planned end, this time, if there is such a report.
+/// Adds to `ends` the report `end`, if there is one, with its planned end, which is `time`.
 fn add_end(time: u64, end: Option<Ended>, ends: &mut Vec<(u64, Ended)>)
     requires { vec_len ends.old + length (option_to_list end) ≤ vec_capacity ends.old }
     ensures ends { ends.new.items ≡ ends.old.items ++ map (λ e. (time, e)) (option_to_list end) }

@@ -41,7 +41,7 @@ fn waits_on(times: &[u64], time: u64, next: Option<u64>, slot: u64) -> bool
     may_still_send(next, slot, arrival)
 }
 
-/// Whether a member waits on `sender`, the member with number `other`, before it takes the instant `time`.
+/// Whether `member` waits on `sender`, the member with number `other`, before it takes the instant `time`.
 fn waits_between(member: &Member, time: u64, other: u32, sender: &Member) -> bool
     requires indexed { AreIndexed member.now.node.dispatcher.table.hears member.now.senders.items (length member.now.arrivals.items) member.now.arrivals.items }
     requires other { other < length member.now.arrivals.items }
@@ -51,8 +51,8 @@ fn waits_between(member: &Member, time: u64, other: u32, sender: &Member) -> boo
     waits_on(times.as_slice(), time, sender.node.next(), sender.slot)
 }
 
-/// Returns the least number of a member that a member waits on before it takes the instant `time`, or `None` if it waits
-/// on none.
+/// Returns the member on which `member` waits before it takes the instant `time`: of several, the one with the least
+/// number. `None` if it waits on none.
 pub fn waited_on(members: &[Member], member: &Member, time: u64) -> Option<u32>
     requires indexed { AreIndexed member.now.node.dispatcher.table.hears member.now.senders.items (length members.now) member.now.arrivals.items }
     requires few { length members.now ≤ 16 }

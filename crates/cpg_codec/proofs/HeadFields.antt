@@ -71,24 +71,25 @@ unfolding IsDeadlineNumber
 deadline_chooses = record {
   found = λ from below lt e.
       elim (or_cases (within 0 1000000000 from below) (within 18446744073709551615 18446744073709551615 from below) e) [
-        | inl h ↦ let f = (within_chooses 0 1000000000 (omega arith)).found from below lt h in (f.0, f.1, f.2, inl f.3)
-        | inr h ↦ let f =
-            (within_chooses 18446744073709551615 18446744073709551615 (omega arith)).found from below lt h in
-            (f.0, f.1, f.2, inr f.3)
+        | inl some ↦ let number = (within_chooses 0 1000000000 (omega arith)).found from below lt some in
+            (number.0, number.1, number.2, inl number.3)
+        | inr some ↦ let number =
+            (within_chooses 18446744073709551615 18446744073709551615 (omega arith)).found from below lt some in
+            (number.0, number.1, number.2, inr number.3)
       ];
-  all = λ from below n a b l. elim l [
-    | inl h ↦ or_left (within 0 1000000000 from below) (within 18446744073709551615 18446744073709551615 from below)
-        ((within_chooses 0 1000000000 (omega arith)).all from below n a b h)
-    | inr h ↦ or_right (within 0 1000000000 from below) (within 18446744073709551615 18446744073709551615 from below)
-        ((within_chooses 18446744073709551615 18446744073709551615 (omega arith)).all from below n a b h)
+  all = λ from below n at_least less choice. elim choice [
+    | inl own ↦ or_left (within 0 1000000000 from below) (within 18446744073709551615 18446744073709551615 from below)
+        ((within_chooses 0 1000000000 (omega arith)).all from below n at_least less own)
+    | inr none ↦ or_right (within 0 1000000000 from below) (within 18446744073709551615 18446744073709551615 from below)
+        ((within_chooses 18446744073709551615 18446744073709551615 (omega arith)).all from below n at_least less none)
   ];
 }
 
 -- the number of a deadline fits eight bytes
 deadline_fits : (n : ℕ) → IsDeadlineNumber n → n < 256 ^ 8
 unfolding IsDeadlineNumber
-deadline_fits n (inl h) = omega (arith, h.1)
-deadline_fits n (inr h) = omega (arith, h.1)
+deadline_fits n (inl range) = omega (arith, range.1)
+deadline_fits n (inr range) = omega (arith, range.1)
 
 -- the deadline that a number is read as
 abbrev chosen : ℕ → Option ℕ
@@ -97,25 +98,26 @@ chosen n = cond (eqb n 18446744073709551615) None (Some n)
 -- the deadline that a number is read as has this number
 chosen_back : (n : ℕ) → deadline_number (chosen n) ≡ n
 chosen_back n = elim (cases_Bool (eqb n 18446744073709551615)) [
-  | inl h ↦ rw h (sym (eqb-true n 18446744073709551615 h))
-  | inr h ↦ rw h refl
+  | inl is_greatest ↦ rw is_greatest (sym (eqb-true n 18446744073709551615 is_greatest))
+  | inr is_other ↦ rw is_other refl
 ]
 
 -- a deadline that such a number is read as is lawful
 deadline_to : (o : Option ℕ) → IsDeadlineNumber (deadline_number o) → o ≡ chosen (deadline_number o) → IsOwn o
 unfolding IsDeadlineNumber
-deadline_to None h e = tt
-deadline_to (Some d) (inl h) e = h.1
-deadline_to (Some d) (inr h) e = let k : d ≡ 18446744073709551615 = omega (arith, h.0, h.1) in
-    absurd (let q : Some d ≡ None = e ∙ rw k refl in cc)
+deadline_to None range chosen_is = tt
+deadline_to (Some d) (inl range) chosen_is = range.1
+deadline_to (Some d) (inr range) chosen_is = let is_end : d ≡ 18446744073709551615 = omega (arith, range.0, range.1) in
+    absurd (let equal : Some d ≡ None = chosen_is ∙ rw is_end refl in cc)
 
 -- a lawful deadline has such a number, which is read as the deadline
 deadline_from : (o : Option ℕ) → IsOwn o → IsDeadlineNumber (deadline_number o) × (o ≡ chosen (deadline_number o))
 unfolding IsDeadlineNumber
-deadline_from None h = (inr (omega arith, omega arith), refl)
-deadline_from (Some d) h = (
-  inl (omega arith, h),
-  let k : eqb d 18446744073709551615 ≡ false = ne_eqb d 18446744073709551615 (λ e. omega arith) in rw k refl,
+deadline_from None lawful = (inr (omega arith, omega arith), refl)
+deadline_from (Some d) lawful = (
+  inl (omega arith, lawful),
+  let not_end : eqb d 18446744073709551615 ≡ false = ne_eqb d 18446744073709551615 (λ e. omega arith) in
+      rw not_end refl,
 )
 
 -- 0 is such a number
@@ -151,26 +153,26 @@ make_extra r d = Some (record { release = r; deadline = d })
 -- an extra that is made of a lawful release and a lawful deadline is lawful in version 2
 extra_some_to : (x : Option Extra) → ((0 ≤ release_of x) × (release_of x ≤ 1000000000)) ×
     (IsOwn (deadline_of x) × (x ≡ make_extra (release_of x) (deadline_of x))) → IsExtraOf 2 x
-extra_some_to None h = absurd (let e : None ≡ make_extra 0 None = h.1.1 in cc)
-extra_some_to (Some e) h = (refl, record { release = h.0.1; deadline = h.1.0 })
+extra_some_to None lawful = absurd (let equal : None ≡ make_extra 0 None = lawful.1.1 in cc)
+extra_some_to (Some e) lawful = (refl, record { release = lawful.0.1; deadline = lawful.1.0 })
 
 -- a lawful extra of version 2 has a lawful release and deadline, and is made of them
 extra_some_from : (x : Option Extra) → IsExtraOf 2 x →
     ((0 ≤ release_of x) × (release_of x ≤ 1000000000)) ×
     (IsOwn (deadline_of x) × (x ≡ make_extra (release_of x) (deadline_of x)))
-extra_some_from None h = absurd (omega (arith, h))
-extra_some_from (Some e) h = ((omega arith, h.1.release), (h.1.deadline, refl))
+extra_some_from None lawful = absurd (omega (arith, lawful))
+extra_some_from (Some e) lawful = ((omega arith, lawful.1.release), (lawful.1.deadline, refl))
 
 -- the bytes of its parts are the bytes of the extra
 extra_some_spell : (x : Option Extra) → IsExtraOf 2 x →
     to_be_bytes w64 (release_of x) ++ (to_be_bytes w64 (deadline_number (deadline_of x)) ++ []) ≡ extra_bytes x
-extra_some_spell None h = absurd (omega (arith, h))
-extra_some_spell (Some e) h =
+extra_some_spell None lawful = absurd (omega (arith, lawful))
+extra_some_spell (Some e) lawful =
     ap (λ (t : List ℕ). to_be_bytes w64 e.release ++ t) (append-nil (to_be_bytes w64 (deadline_number e.deadline)))
 
 -- no extra is lawful in version 1
 extra_none_to : (x : Option Extra) → x ≡ None → IsExtraOf 1 x
-extra_none_to x e = rw e refl
+extra_none_to x is_none = rw is_none refl
 
 -- in version 2 the reader reads exactly the bytes of a release and a deadline
 extra_two : Reads (IsExtraOf 2) extra_bytes (read_extra 2)
@@ -189,10 +191,10 @@ extra_one = adapt (pure_reads None) extra_none_to none_of (λ x h. ap extra_byte
 
 -- the reader of what a version adds reads exactly its bytes, for version 1 and 2
 pub extra_reads : (version : ℕ) → 1 ≤ version → version ≤ 2 → Reads (IsExtraOf version) extra_bytes (read_extra version)
-extra_reads zero a b = absurd (omega arith)
-extra_reads (suc zero) a b = extra_one
-extra_reads (suc (suc zero)) a b = extra_two
-extra_reads (suc (suc (suc n))) a b = absurd (omega arith)
+extra_reads zero least most = absurd (omega arith)
+extra_reads (suc zero) least most = extra_one
+extra_reads (suc (suc zero)) least most = extra_two
+extra_reads (suc (suc (suc n))) least most = absurd (omega arith)
 
 -- ---- processes
 
@@ -212,24 +214,24 @@ flag_is false = refl
 
 -- a number within the bound of a flag is 0 or 1, and so the number of a flag
 flag_back : (n m : ℕ) → n ≤ cond (ltb m 32) 1 0 → bit (eqb n 1) ≡ n
-flag_back zero m h = refl
-flag_back (suc zero) m h = refl
-flag_back (suc (suc n)) m h = absurd (flag_below (ltb m 32) n h) where
+flag_back zero m within = refl
+flag_back (suc zero) m within = refl
+flag_back (suc (suc n)) m within = absurd (flag_below (ltb m 32) n within) where
   -- a number from 2 on is above each bound of a flag
   flag_below : (t : Bool) (n : ℕ) → suc (suc n) ≤ cond t 1 0 → ⊥
-  flag_below true n h = omega arith
-  flag_below false n h = omega arith
+  flag_below true n within = omega arith
+  flag_below false n within = omega arith
 
 -- a flag is within its bound exactly if there are at most 32 conditions with it
 flag_limit : (ones : ℕ) (b : Bool) → ones ≤ 32 → (bit b ≤ cond (ltb ones 32) 1 0) ↔ (ones + bit b ≤ 32)
 flag_limit ones b le = elim (cases_Bool (ltb ones 32)) [
-  | inl h ↦ let k = ltb-true ones 32 h in rw h (λ _. flag_sum b k, λ _. flag_one b)
-  | inr h ↦ let k = ltb-false ones 32 h in rw h (λ z. omega arith, λ z. omega arith)
+  | inl room ↦ let below = ltb-true ones 32 room in rw room (λ _. flag_sum b below, λ _. flag_one b)
+  | inr full ↦ let at_least = ltb-false ones 32 full in rw full (λ z. omega arith, λ z. omega arith)
 ] where
   -- with fewer than 32 conditions there is room for one more
   flag_sum : (b : Bool) → ones < 32 → ones + bit b ≤ 32
-  flag_sum true k = omega arith
-  flag_sum false k = omega arith
+  flag_sum true below = omega arith
+  flag_sum false below = omega arith
 
   -- a flag is at most 1
   flag_one : (b : Bool) → bit b ≤ 1
@@ -239,8 +241,8 @@ flag_limit ones b le = elim (cases_Bool (ltb ones 32)) [
 -- the bound of a flag is a byte
 flag_end : (ones : ℕ) → cond (ltb ones 32) 1 0 < 256
 flag_end ones = elim (cases_Bool (ltb ones 32)) [
-  | inl h ↦ rw h (omega arith)
-  | inr h ↦ rw h (omega arith)
+  | inl room ↦ rw room (omega arith)
+  | inr full ↦ rw full (omega arith)
 ]
 
 -- the process of these fields as they are read: its name, node, flag, times and extra
@@ -341,11 +343,11 @@ processes_reads version faults nodes count v1 v2 few le =
     (λ l ls ones i. process_reads version faults nodes ones v1 v2 (i.1 (omega arith)) few i.0)
     (λ l ls ones w i f. (f.1, λ h. i.1 (omega arith)))
     (λ ones i. record { count_is = refl; each = tt; conditions = omega (arith, i.0) })
-    (λ ones w ws g. absurd (let h : suc (length ws) ≡ 0 = g.count_is in omega arith))
-    (λ l ls ones g. absurd (let h : 0 ≡ suc (length ls) = g.count_is in omega arith))
+    (λ ones w ws g. absurd (let none : suc (length ws) ≡ 0 = g.count_is in omega arith))
+    (λ l ls ones g. absurd (let none : 0 ≡ suc (length ls) = g.count_is in omega arith))
     (λ l ls ones w ws i f g.
     record { count_is = ap suc g.count_is; each = (f.0, g.each); conditions = omega (arith, g.conditions) })
-    (λ l ls ones w ws i g. let h : suc (length ws) ≡ suc (length ls) = g.count_is in (
+    (λ l ls ones w ws i g. let counts : suc (length ws) ≡ suc (length ls) = g.count_is in (
       (g.each.0, omega (arith, g.conditions)),
       record { count_is = omega arith; each = g.each.1; conditions = omega (arith, g.conditions) },
     ))
@@ -398,27 +400,29 @@ record Parts (h : Head) : Type 0 where
 
 -- a head with such fields is lawful
 from_parts : (h : Head) → Parts h → IsPackHead h
-from_parts h p =
-    let n = written_length h in
-    subst IsPackHead (sym p.same)
-    (made_lawful (version_of h) h.faults h.nodes (written h) h.edges p.version.1 p.faults p.few_nodes p.nodes
-    (omega (arith, n, p.few, limit_most (length h.nodes) 128))
-    (subst (λ (c : ℕ). AreProcesses (version_of h) h.faults (length h.nodes) c 0 (written h)) (sym n) p.processes)
-    (omega (arith, p.few_edges, limit_most (length h.processes) 256))
-    (subst (λ (c : ℕ). AllByRecursion (IsHeadEdge c) h.edges) (sym n) p.edges))
+from_parts h parts =
+    let counts = written_length h in
+    subst IsPackHead (sym parts.same)
+    (made_lawful (version_of h) h.faults h.nodes (written h) h.edges
+    parts.version.1 parts.faults parts.few_nodes parts.nodes
+    (omega (arith, counts, parts.few, limit_most (length h.nodes) 128))
+    (subst (λ (c : ℕ). AreProcesses (version_of h) h.faults (length h.nodes) c 0 (written h)) (sym counts)
+    parts.processes)
+    (omega (arith, parts.few_edges, limit_most (length h.processes) 256))
+    (subst (λ (c : ℕ). AllByRecursion (IsHeadEdge c) h.edges) (sym counts) parts.edges))
 
 -- a lawful head has such fields, field by field: its lists by recursion, its limits as the laws of a head have them
 parts_of : (h : Head) → IsPackHead h → Parts h
-parts_of h q = record {
+parts_of h lawful = record {
   version = version_within h;
-  faults = q.within.faults;
-  few_nodes = q.within.few_nodes;
-  nodes = recursion_from_All IsName h.nodes q.nodes;
-  few = processes_limit h q.within;
-  processes = head_processes h q;
-  few_edges = edges_limit h q.within;
-  edges = recursion_from_All (IsHeadEdge (length h.processes)) h.edges q.within.edges;
-  same = head_again h q.within;
+  faults = lawful.within.faults;
+  few_nodes = lawful.within.few_nodes;
+  nodes = recursion_from_All IsName h.nodes lawful.nodes;
+  few = processes_limit h lawful.within;
+  processes = head_processes h lawful;
+  few_edges = edges_limit h lawful.within;
+  edges = recursion_from_All (IsHeadEdge (length h.processes)) h.edges lawful.within.edges;
+  same = head_again h lawful.within;
 }
 
 -- The reader of a head reads exactly the bytes of a lawful head.
@@ -465,19 +469,19 @@ head_reads =
       same = q.1.1.1.1.1.1.1.1.1;
     }))
     -- and the parts of a head are what they take
-    (λ h l. let p = parts_of h l in (
+    (λ h lawful. let parts = parts_of h lawful in (
       (omega arith, omega arith),
       (
-        p.version,
+        parts.version,
         (
-          (omega arith, p.faults),
+          (omega arith, parts.faults),
           (
-            (omega arith, p.few_nodes),
+            (omega arith, parts.few_nodes),
             (
-              (refl, p.nodes),
+              (refl, parts.nodes),
               (
-                (omega arith, p.few),
-                (p.processes, ((omega arith, p.few_edges), ((refl, p.edges), p.same))),
+                (omega arith, parts.few),
+                (parts.processes, ((omega arith, parts.few_edges), ((refl, parts.edges), parts.same))),
               ),
             ),
           ),

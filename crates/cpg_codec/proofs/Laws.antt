@@ -36,14 +36,14 @@ pub record Reads {A : Type 0} (Fits : A → Type 0) (spell : A → List ℕ) (re
 -- if reading on after a first result succeeds, the first result is a value, and the reader for it succeeds
 pub onward_ok : {A B : Type 0} (f : A → Reader B) (r : Result (A × List ℕ) ℕ) (y : B × List ℕ) → onward f r ≡ Ok y →
     (x : A × List ℕ) × (r ≡ Ok x) × (f x.0 x.1 ≡ Ok y)
-onward_ok f (Ok x) y e = (x, refl, e)
-onward_ok f (Err d) y e = absurd cc
+onward_ok f (Ok x) y succeeds = (x, refl, succeeds)
+onward_ok f (Err d) y succeeds = absurd cc
 
 -- if reading on after a first result fails, either the first result is this error, or the reader for its value fails so
 pub onward_err : {A B : Type 0} (f : A → Reader B) (r : Result (A × List ℕ) ℕ) (left : ℕ) → onward f r ≡ Err left →
     (r ≡ Err left) ⊎ ((x : A × List ℕ) × (r ≡ Ok x) × (f x.0 x.1 ≡ Err left))
-onward_err f (Ok x) left e = inr (x, refl, e)
-onward_err f (Err d) left e = inl cc
+onward_err f (Ok x) left fails = inr (x, refl, fails)
+onward_err f (Err d) left fails = inl cc
 
 -- a success, with the type of a reader's error
 abbrev done : {A : Type 0} → A → Result A ℕ
@@ -51,15 +51,15 @@ done x = Ok x
 
 -- equal successes have equal values
 pub ok_is : {A : Type 0} (x y : A) → done x ≡ done y → x ≡ y
-ok_is x y e = cc
+ok_is x y same = cc
 
 -- the reader that reads no byte and gives x reads exactly the empty spelling of x
 pub pure_reads : {A : Type 0} (x : A) → Reads (λ y. y ≡ x) (λ y. []) (pure x)
 pure_reads x = record {
   some = x;
   some_fits = refl;
-  takes = λ bytes y rest e. let h = ok_is (x, bytes) (y, rest) e in
-      (sym (ap (λ (p : _ × List ℕ). p.0) h), ap (λ (p : _ × List ℕ). p.1) h);
+  takes = λ bytes y rest e. let same = ok_is (x, bytes) (y, rest) e in
+      (sym (ap (λ (p : _ × List ℕ). p.0) same), ap (λ (p : _ × List ℕ). p.1) same);
   again = λ y rest h. rw h refl;
   stops = λ bytes left e. absurd cc;
 }
@@ -87,19 +87,20 @@ module _ {A X : Type 0} (F1 : A → Type 0) (s1 : A → List ℕ) (r1 : Reader A
 
   -- where the first reader stops, so do both: some value of the second reader completes the spelling that it began
   stop_first : (bytes : List ℕ) (left : ℕ) → Stop F1 s1 r1 bytes left → Stop Both both (r1 >>= r2) bytes left
-  stop_first bytes left s =
-      let l = two s.value s.fits in
+  stop_first bytes left stop =
+      let completion = two stop.value stop.fits in
       record {
-        good = s.good;
-        bad = s.bad;
-        whole = s.whole;
-        left_is = s.left_is;
-        value = l.some;
-        fits = from_first s.value l.some s.fits l.some_fits;
-        more = s.more ++ s2 s.value l.some;
-        goes_on = both_is s.value l.some s.fits l.some_fits ∙ ap (λ (t : List ℕ). t ++ s2 s.value l.some) s.goes_on
-            ∙ append_assoc s.good s.more (s2 s.value l.some);
-        stays = λ b tail after e. ap (onward r2) (s.stays b tail after e);
+        good = stop.good;
+        bad = stop.bad;
+        whole = stop.whole;
+        left_is = stop.left_is;
+        value = completion.some;
+        fits = from_first stop.value completion.some stop.fits completion.some_fits;
+        more = stop.more ++ s2 stop.value completion.some;
+        goes_on = both_is stop.value completion.some stop.fits completion.some_fits
+            ∙ ap (λ (t : List ℕ). t ++ s2 stop.value completion.some) stop.goes_on
+            ∙ append_assoc stop.good stop.more (s2 stop.value completion.some);
+        stays = λ b tail after e. ap (onward r2) (stop.stays b tail after e);
       }
 
   -- where the second reader stops after the first has read a value, so do both, with the spelling of that value before:
@@ -107,19 +108,19 @@ module _ {A X : Type 0} (F1 : A → Type 0) (s1 : A → List ℕ) (r1 : Reader A
   stop_second : (bytes : List ℕ) (left : ℕ) (a : A) (rest : List ℕ) → F1 a → bytes ≡ s1 a ++ rest →
       Stop (F2 a) (s2 a) (r2 a) rest left →
       Stop Both both (r1 >>= r2) bytes left
-  stop_second bytes left a rest fa parts s =
+  stop_second bytes left a rest fa parts stop =
       record {
-        good = s1 a ++ s.good;
-        bad = s.bad;
-        whole = parts ∙ ap (λ (t : List ℕ). s1 a ++ t) s.whole ∙ sym (append_assoc (s1 a) s.good s.bad);
-        left_is = s.left_is;
-        value = s.value;
-        fits = from_first a s.value fa s.fits;
-        more = s.more;
-        goes_on = both_is a s.value fa s.fits ∙ ap (λ (t : List ℕ). s1 a ++ t) s.goes_on
-            ∙ sym (append_assoc (s1 a) s.good s.more);
-        stays = λ b tail after e. ap (λ (t : List ℕ). onward r2 (r1 t)) (append_assoc (s1 a) s.good (b ∷ after))
-            ∙ ap (onward r2) (one.again a (s.good ++ b ∷ after) fa) ∙ s.stays b tail after e;
+        good = s1 a ++ stop.good;
+        bad = stop.bad;
+        whole = parts ∙ ap (λ (t : List ℕ). s1 a ++ t) stop.whole ∙ sym (append_assoc (s1 a) stop.good stop.bad);
+        left_is = stop.left_is;
+        value = stop.value;
+        fits = from_first a stop.value fa stop.fits;
+        more = stop.more;
+        goes_on = both_is a stop.value fa stop.fits ∙ ap (λ (t : List ℕ). s1 a ++ t) stop.goes_on
+            ∙ sym (append_assoc (s1 a) stop.good stop.more);
+        stays = λ b tail after e. ap (λ (t : List ℕ). onward r2 (r1 t)) (append_assoc (s1 a) stop.good (b ∷ after))
+            ∙ ap (onward r2) (one.again a (stop.good ++ b ∷ after) fa) ∙ stop.stays b tail after e;
       }
 
   -- two readers, one after the other, read exactly the values that fit both; each field follows from those of the two
@@ -129,21 +130,21 @@ module _ {A X : Type 0} (F1 : A → Type 0) (s1 : A → List ℕ) (r1 : Reader A
     some_fits =
         from_first one.some (two one.some one.some_fits).some one.some_fits (two one.some one.some_fits).some_fits;
     takes = λ bytes x rest e.
-        let o = onward_ok r2 (r1 bytes) (x, rest) e in
-        let t = one.takes bytes o.0.0 o.0.1 o.1 in
-        let u = (two o.0.0 t.0).takes o.0.1 x rest o.2 in (
-          from_first o.0.0 x t.0 u.0,
-          t.1 ∙ ap (λ (l : List ℕ). s1 o.0.0 ++ l) u.1 ∙ sym (append_assoc (s1 o.0.0) (s2 o.0.0 x) rest)
-              ∙ ap (λ (l : List ℕ). l ++ rest) (sym (both_is o.0.0 x t.0 u.0)),
+        let got = onward_ok r2 (r1 bytes) (x, rest) e in
+        let front = one.takes bytes got.0.0 got.0.1 got.1 in
+        let behind = (two got.0.0 front.0).takes got.0.1 x rest got.2 in (
+          from_first got.0.0 x front.0 behind.0,
+          front.1 ∙ ap (λ (l : List ℕ). s1 got.0.0 ++ l) behind.1 ∙ sym (append_assoc (s1 got.0.0) (s2 got.0.0 x) rest)
+              ∙ ap (λ (l : List ℕ). l ++ rest) (sym (both_is got.0.0 x front.0 behind.0)),
         );
     again = λ x rest h.
         ap (λ (t : List ℕ). onward r2 (r1 t)) (append_assoc (s1 (first x)) (s2 (first x) x) rest)
         ∙ ap (onward r2) (one.again (first x) (s2 (first x) x ++ rest) h.0) ∙
         (two (first x) h.0).again x rest h.1;
     stops = λ bytes left e. elim (onward_err r2 (r1 bytes) left e) [
-      | inl d ↦ stop_first bytes left (one.stops bytes left d)
-      | inr o ↦ let t = one.takes bytes o.0.0 o.0.1 o.1 in
-          stop_second bytes left o.0.0 o.0.1 t.0 t.1 ((two o.0.0 t.0).stops o.0.1 left o.2)
+      | inl fails ↦ stop_first bytes left (one.stops bytes left fails)
+      | inr got ↦ let front = one.takes bytes got.0.0 got.0.1 got.1 in
+          stop_second bytes left got.0.0 got.0.1 front.0 front.1 ((two got.0.0 front.0).stops got.0.1 left got.2)
     ];
   }
 
@@ -158,61 +159,64 @@ seq {A} {X} {F1} {s1} {r1} {F2} {s2} {r2} first one two same = then_reads F1 s1 
 -- of the laws is said again with `to`, `from` and `same`
 pub adapt : {A : Type 0} {F G : A → Type 0} {s t : A → List ℕ} {r : Reader A} → Reads F s r → ((x : A) → F x → G x) →
     ((x : A) → G x → F x) → ((x : A) → G x → s x ≡ t x) → Reads G t r
-adapt {A} {F} {G} {s} {t} {r} l to from same = record {
-  some = l.some;
-  some_fits = to l.some l.some_fits;
-  takes = λ bytes x rest e. let u = l.takes bytes x rest e in
-      (to x u.0, u.1 ∙ ap (λ (k : List ℕ). k ++ rest) (same x (to x u.0)));
-  again = λ x rest h. ap r (ap (λ (k : List ℕ). k ++ rest) (sym (same x h))) ∙ l.again x rest (from x h);
-  stops = λ bytes left e. let s0 = l.stops bytes left e in record {
-    good = s0.good;
-    bad = s0.bad;
-    whole = s0.whole;
-    left_is = s0.left_is;
-    value = s0.value;
-    fits = to s0.value s0.fits;
-    more = s0.more;
-    goes_on = sym (same s0.value (to s0.value s0.fits)) ∙ s0.goes_on;
-    stays = s0.stays;
+adapt {A} {F} {G} {s} {t} {r} reads to from same = record {
+  some = reads.some;
+  some_fits = to reads.some reads.some_fits;
+  takes = λ bytes x rest e. let took = reads.takes bytes x rest e in
+      (to x took.0, took.1 ∙ ap (λ (k : List ℕ). k ++ rest) (same x (to x took.0)));
+  again = λ x rest h. ap r (ap (λ (k : List ℕ). k ++ rest) (sym (same x h))) ∙ reads.again x rest (from x h);
+  stops = λ bytes left e. let stop = reads.stops bytes left e in record {
+    good = stop.good;
+    bad = stop.bad;
+    whole = stop.whole;
+    left_is = stop.left_is;
+    value = stop.value;
+    fits = to stop.value stop.fits;
+    more = stop.more;
+    goes_on = sym (same stop.value (to stop.value stop.fits)) ∙ stop.goes_on;
+    stays = stop.stays;
   };
 }
 
 -- a byte that passes the test is read, and the others are left
 byte_step : (ok : ℕ → Bool) (b : ℕ) (bytes : List ℕ) → ok b ≡ true → byte_by ok (b ∷ bytes) ≡ Ok (b, bytes)
-byte_step ok b bytes h = rw h refl
+byte_step ok b bytes passes = rw passes refl
 
 -- a byte that fails the test isn't read: it is left, and all after it
-failing_byte_left : (ok : ℕ → Bool) (b : ℕ) (bytes : List ℕ) → ok b ≡ false → byte_by ok (b ∷ bytes) ≡ Err (suc (length bytes))
-failing_byte_left ok b bytes h = rw h refl
+failing_byte_left : (ok : ℕ → Bool) (b : ℕ) (bytes : List ℕ) → ok b ≡ false →
+    byte_by ok (b ∷ bytes) ≡ Err (suc (length bytes))
+failing_byte_left ok b bytes fails = rw fails refl
 
--- if the first byte is read, it passes the test and the others are left; t is the answer of the test
-byte_took : (ok : ℕ → Bool) (b : ℕ) (bytes : List ℕ) (c : ℕ) (rest : List ℕ) (t : Bool) → t ≡ ok b →
-    cond {A = Result (ℕ × List ℕ) ℕ} t (Ok (b, bytes)) (Err (suc (length bytes))) ≡ done (c, rest) →
+-- if the first byte is read, it passes the test and the others are left; `answer` is that of the test
+byte_took : (ok : ℕ → Bool) (b : ℕ) (bytes : List ℕ) (c : ℕ) (rest : List ℕ) (answer : Bool) → answer ≡ ok b →
+    cond {A = Result (ℕ × List ℕ) ℕ} answer (Ok (b, bytes)) (Err (suc (length bytes))) ≡ done (c, rest) →
     (ok c ≡ true) × (b ∷ bytes ≡ c ∷ rest)
-byte_took ok b bytes c rest true h e = let k = ok_is (b, bytes) (c, rest) e in
-    (subst (λ (x : ℕ). ok x ≡ true) (ap (λ (p : ℕ × List ℕ). p.0) k) (sym h), ap (λ (p : ℕ × List ℕ). p.0 ∷ p.1) k)
-byte_took ok b bytes c rest false h e = absurd cc
+byte_took ok b bytes c rest true answer_is read_as = let same = ok_is (b, bytes) (c, rest) read_as in (
+  subst (λ (x : ℕ). ok x ≡ true) (ap (λ (p : ℕ × List ℕ). p.0) same) (sym answer_is),
+  ap (λ (p : ℕ × List ℕ). p.0 ∷ p.1) same,
+)
+byte_took ok b bytes c rest false answer_is read_as = absurd cc
 
--- if the first byte isn't read, it fails the test and all bytes are left; t is the answer of the test
-byte_not : (ok : ℕ → Bool) (b : ℕ) (bytes : List ℕ) (left : ℕ) (t : Bool) → t ≡ ok b →
-    cond {A = Result (ℕ × List ℕ) ℕ} t (Ok (b, bytes)) (Err (suc (length bytes))) ≡ Err left →
+-- if the first byte isn't read, it fails the test and all bytes are left; `answer` is that of the test
+byte_not : (ok : ℕ → Bool) (b : ℕ) (bytes : List ℕ) (left : ℕ) (answer : Bool) → answer ≡ ok b →
+    cond {A = Result (ℕ × List ℕ) ℕ} answer (Ok (b, bytes)) (Err (suc (length bytes))) ≡ Err left →
     (ok b ≡ false) ×
     (left ≡ suc (length bytes))
-byte_not ok b bytes left true h e = absurd cc
-byte_not ok b bytes left false h e = (sym h, cc)
+byte_not ok b bytes left true answer_is fails = absurd cc
+byte_not ok b bytes left false answer_is fails = (sym answer_is, cc)
 
 -- what was read is the first byte, and it passes the test
 byte_takes : (ok : ℕ → Bool) (bytes : List ℕ) (c : ℕ) (rest : List ℕ) → byte_by ok bytes ≡ Ok (c, rest) →
     (ok c ≡ true) × (bytes ≡ c ∷ rest)
-byte_takes ok [] c rest e = absurd cc
-byte_takes ok (b ∷ bytes) c rest e = byte_took ok b bytes c rest (ok b) refl e
+byte_takes ok [] c rest read_as = absurd cc
+byte_takes ok (b ∷ bytes) c rest read_as = byte_took ok b bytes c rest (ok b) refl read_as
 
 -- if no byte is read, the reader stops there: the bytes have ended, or the first one fails the test, and so it does whatever
 -- follows; some byte that passes would go on
 byte_stops : (ok : ℕ → Bool) (some : ℕ) (fits : ok some ≡ true) (bytes : List ℕ) (left : ℕ) →
     byte_by ok bytes ≡ Err left →
     Stop (λ b. ok b ≡ true) (λ b. b ∷ []) (byte_by ok) bytes left
-byte_stops ok some fits [] left e = record {
+byte_stops ok some fits [] left fails = record {
   good = [];
   bad = [];
   whole = refl;
@@ -223,19 +227,20 @@ byte_stops ok some fits [] left e = record {
   goes_on = refl;
   stays = λ b tail after h. absurd cc;
 }
-byte_stops ok some fits (b ∷ bytes) left e =
-    let n = byte_not ok b bytes left (ok b) refl e in
+byte_stops ok some fits (b ∷ bytes) left fails =
+    let failure = byte_not ok b bytes left (ok b) refl fails in
     record {
       good = [];
       bad = b ∷ bytes;
       whole = refl;
-      left_is = n.1;
+      left_is = failure.1;
       value = some;
       fits = fits;
       more = some ∷ [];
       goes_on = refl;
       stays =
-          λ c tail after h. failing_byte_left ok c after (let q : b ≡ c = cc in subst (λ (x : ℕ). ok x ≡ false) q n.0);
+          λ c tail after h. failing_byte_left ok c after (let same : b ≡ c = cc in
+          subst (λ (x : ℕ). ok x ≡ false) same failure.0);
     }
 
 -- the reader of one byte reads exactly the bytes that pass its test, if at least one byte passes

@@ -34,12 +34,12 @@ use Rattle.cpg_codec.proofs.ColumnFields.{few_fault, literals_room, column_liter
 -- the spellings of a list's elements, each of at most `most` bytes, are together at most that many times the length
 pieces : {X : Type 0} (f : X → List ℕ) (most : ℕ) (xs : List X) → AllByRecursion (λ x. length (f x) ≤ most) xs →
     length (flat_map f xs) ≤ length xs * most
-pieces f most [] h = omega arith
-pieces f most (x ∷ xs) h =
-    let rest = pieces f most xs h.1 in
+pieces f most [] short = omega arith
+pieces f most (x ∷ xs) short =
+    let rest = pieces f most xs short.1 in
     let parts : length (flat_map f (x ∷ xs)) ≡ length (f x) + length (flat_map f xs) =
     ap length (flat_map-cons f x xs) ∙ length-append (f x) (flat_map f xs) in
-    omega (arith, rest, parts, h.0)
+    omega (arith, rest, parts, short.0)
 
 -- pieces of elements with property P, from which it follows that a piece has at most `most` bytes, have at most `most`
 -- bytes each
@@ -51,26 +51,29 @@ all_pieces P f most xs each h = pieces f most xs
 
 -- the length of three pieces together
 three : (a b c : List ℕ) → length (a ++ b ++ c) ≡ length a + length b + length c
-three a b c = let l = length-append (a ++ b) c in let m = length-append a b in omega (arith, l, m)
+three a b c =
+    let all_three = length-append (a ++ b) c in
+    let first_two = length-append a b in
+    omega (arith, all_three, first_two)
 
 -- the length of five pieces together
 five : (a b c d e : List ℕ) → length (a ++ b ++ c ++ d ++ e) ≡ length a + length b + length c + length d + length e
-five a b c d e = let l = length-append (a ++ b ++ c ++ d) e in
-    let m = length-append (a ++ b ++ c) d in
-    let n = three a b c in
-    omega (arith, l, m, n)
+five a b c d e = let before_last = length-append (a ++ b ++ c ++ d) e in
+    let before_d = length-append (a ++ b ++ c) d in
+    let front = three a b c in
+    omega (arith, before_last, before_d, front)
 
 -- the length of nine pieces together
 nine : (a b c d e f g h i : List ℕ) →
     length (a ++ b ++ c ++ d ++ e ++ f ++ g ++ h ++ i)
     ≡ length a + length b + length c + length d + length e + length f + length g + length h + length i
 nine a b c d e f g h i =
-    let u = length-append (a ++ b ++ c ++ d ++ e ++ f ++ g ++ h) i in
-    let v = length-append (a ++ b ++ c ++ d ++ e ++ f ++ g) h in
-    let w = length-append (a ++ b ++ c ++ d ++ e ++ f) g in
-    let x = length-append (a ++ b ++ c ++ d ++ e) f in
-    let y = five a b c d e in
-    omega (arith, u, v, w, x, y)
+    let before_i = length-append (a ++ b ++ c ++ d ++ e ++ f ++ g ++ h) i in
+    let before_h = length-append (a ++ b ++ c ++ d ++ e ++ f ++ g) h in
+    let before_g = length-append (a ++ b ++ c ++ d ++ e ++ f) g in
+    let before_f = length-append (a ++ b ++ c ++ d ++ e) f in
+    let front = five a b c d e in
+    omega (arith, before_i, before_h, before_g, before_f, front)
 
 -- ---- rows
 
@@ -88,36 +91,37 @@ literals_long ls = pieces literal_bytes 3 ls (each ls) where
 
 -- a lawful column has at most 160 literals: one for each of 128 counts and 32 values
 column_room : (s : VariableSpace) (c : Column) → IsSpace s → IsLawfulColumn s c → length c.cube ≤ 160
-column_room s c i h = within (fault_end s) s.conditions (length c.cube) (few_fault s i) i.conditions
-    (literals_room s 0 c.cube (few_fault s i) (column_literals s c i h))
+column_room s c is_space lawful =
+    within (fault_end s) s.conditions (length c.cube) (few_fault s is_space) is_space.conditions
+    (literals_room s 0 c.cube (few_fault s is_space) (column_literals s c is_space lawful))
   where
     -- a space has at most 128 fault counts and 32 values, so at most 160 variables
     within : (e k n : ℕ) → e ≤ 128 → k ≤ 32 → n ≤ (e - 0) + ((128 + k) - max 128 0) → n ≤ 160
-    within e k n a b r = omega arith
+    within e k n counts_few values_few room = omega arith
 
 -- a lawful column has at most 489 bytes: 8 of its time, 1 of the count, and 3 for each of 160 literals
 column_long : (s : VariableSpace) → IsSpace s → (c : Column) → IsLawfulColumn s c → length (column_bytes c) ≤ 489
-column_long s i c h =
+column_long s is_space c lawful =
     let parts = three (to_be_bytes w64 c.time) (byte (length c.cube)) (flat_map literal_bytes c.cube) in
     let literals = literals_long c.cube in
-    let room = column_room s c i h in
+    let room = column_room s c is_space lawful in
     omega (arith, parts, literals, room)
 
 -- a lawful row has at most 489 bytes for each column, and 2 for their number
 row_long : (s : VariableSpace) → IsSpace s → (r : Row) → IsLawfulRow s r →
     length (row_bytes r) ≤ length r.columns * 489 + 2
-row_long s i r h =
+row_long s is_space r lawful =
     let parts = length-append (to_be_bytes w16 (length r.columns)) (flat_map column_bytes r.columns) in
-    let columns = all_pieces (IsLawfulColumn s) column_bytes 489 r.columns (column_long s i) h.columns in
+    let columns = all_pieces (IsLawfulColumn s) column_bytes 489 r.columns (column_long s is_space) lawful.columns in
     omega (arith, parts, columns)
 
 -- lawful rows have together at most 489 bytes for each column, and 2 for each row; by induction
 rows_long : (s : VariableSpace) → IsSpace s → (rows : List Row) → AllByRecursion (IsLawfulRow s) rows →
     length (flat_map row_bytes rows) ≤ column_count rows * 489 + length rows * 2
-rows_long s i [] h = omega arith
-rows_long s i (r ∷ rows) h =
-    let one = row_long s i r h.0 in
-    let rest = rows_long s i rows h.1 in
+rows_long s is_space [] lawful = omega arith
+rows_long s is_space (r ∷ rows) lawful =
+    let one = row_long s is_space r lawful.0 in
+    let rest = rows_long s is_space rows lawful.1 in
     let parts : length (flat_map row_bytes (r ∷ rows)) ≡ length (row_bytes r) + length (flat_map row_bytes rows) =
     ap length (flat_map-cons row_bytes r rows) ∙
     length-append (row_bytes r) (flat_map row_bytes rows) in
@@ -192,10 +196,10 @@ module _ (h : Head) (q : IsHead h) (node : ℕ) where
 -- the table of a node has at most 489 bytes for each column, and 1,792, which is 2 for each of 896 rows
 table_long : (h : Head) → IsHead h → (node : ℕ) (t : NodeTable) → IsTableOf h node t →
     length (table_bytes t) ≤ column_count (rows_of t) * 489 + 1792
-table_long h q node t of =
-    let rows = rows_long (space_of h) (head_space h q) (rows_of t)
+table_long h is_head node t of =
+    let rows = rows_long (space_of h) (head_space h is_head) (rows_of t)
     (recursion_from_All (IsLawfulRow (space_of h)) (rows_of t) of.lawful) in
-    omega (arith, rows, rows_few h q node t of)
+    omega (arith, rows, rows_few h is_head node t of)
 
 -- the bound on the bytes of a table, as a property of the table
 abbrev IsLong : NodeTable → Type 0
@@ -204,21 +208,21 @@ IsLong t = length (table_bytes t) ≤ column_count (rows_of t) * 489 + 1792
 -- tables of this property have together at most 489 bytes for each column and 1,792 for each table; by induction
 tables_long : (ts : List NodeTable) → AllByRecursion IsLong ts →
     length (flat_map table_bytes ts) ≤ sum_by (λ t. column_count (rows_of t)) ts * 489 + length ts * 1792
-tables_long [] h = omega arith
-tables_long (t ∷ ts) h =
-    let rest = tables_long ts h.1 in
+tables_long [] each = omega arith
+tables_long (t ∷ ts) each =
+    let rest = tables_long ts each.1 in
     let parts : length (flat_map table_bytes (t ∷ ts)) ≡ length (table_bytes t) + length (flat_map table_bytes ts) =
     ap length (flat_map-cons table_bytes t ts) ∙
     length-append (table_bytes t) (flat_map table_bytes ts) in
     let counts : sum_by (λ u. column_count (rows_of u)) (t ∷ ts) ≡ column_count (rows_of t)
     + sum_by (λ u. column_count (rows_of u)) ts = sum_by-cons (λ u. column_count (rows_of u)) t ts in
-    omega (arith, rest, parts, counts, h.0)
+    omega (arith, rest, parts, counts, each.0)
 
 -- ---- heads
 
 -- a name has at most 33 bytes: 32 letters and their number
 name_long : (text : List ℕ) → IsName text → length (name_bytes text) ≤ 33
-name_long text n = let parts = length-append (byte (length text)) text in omega (arith, parts, n.short)
+name_long text is_name = let parts = length-append (byte (length text)) text in omega (arith, parts, is_name.short)
 
 -- what version 2 adds to a process has at most 16 bytes
 extra_long : (o : Option Extra) → length (extra_bytes o) ≤ 16
@@ -244,35 +248,35 @@ record IsNamed (p : HeadProcess) : Type 0 where
 -- what version 2 adds
 process_long : (p : HeadProcess) (o : Option Extra) → IsNamed p →
     length (process_bytes (record { process = p; extra = o })) ≤ 123
-process_long p o n =
+process_long p o is_named =
     let parts = five (name_bytes p.name) (byte p.node) (byte (bit p.condition)) (flat_map (to_be_bytes w64) p.times)
     (extra_bytes o) in
-    let name = name_long p.name n.name in
+    let name = name_long p.name is_named.name in
     let times = times_long p.times in
     let extra = extra_long o in
-    omega (arith, parts, name, times, extra, n.times)
+    omega (arith, parts, name, times, extra, is_named.times)
 
 -- processes as in `IsNamed` have together at most 123 bytes each, whatever extras they are written with; by induction
 processes_long : (ps : List HeadProcess) (es : List Extra) → AllByRecursion IsNamed ps →
     length (flat_map process_bytes (written_by ps es)) ≤ length ps * 123
-processes_long [] es h = omega arith
-processes_long (p ∷ ps) [] h =
-    let rest = processes_long ps [] h.1 in
-    let w : Written = record { process = p; extra = None } in
-    let one = process_long p None h.0 in
-    let parts : length (flat_map process_bytes (w ∷ written_by ps []))
-    ≡ length (process_bytes w) + length (flat_map process_bytes (written_by ps [])) =
-    ap length (flat_map-cons process_bytes w (written_by ps []))
-    ∙ length-append (process_bytes w) (flat_map process_bytes (written_by ps [])) in
+processes_long [] es each = omega arith
+processes_long (p ∷ ps) [] each =
+    let rest = processes_long ps [] each.1 in
+    let it : Written = record { process = p; extra = None } in
+    let one = process_long p None each.0 in
+    let parts : length (flat_map process_bytes (it ∷ written_by ps []))
+    ≡ length (process_bytes it) + length (flat_map process_bytes (written_by ps [])) =
+    ap length (flat_map-cons process_bytes it (written_by ps []))
+    ∙ length-append (process_bytes it) (flat_map process_bytes (written_by ps [])) in
     omega (arith, rest, one, parts)
-processes_long (p ∷ ps) (e ∷ es) h =
-    let rest = processes_long ps es h.1 in
-    let w : Written = record { process = p; extra = Some e } in
-    let one = process_long p (Some e) h.0 in
-    let parts : length (flat_map process_bytes (w ∷ written_by ps es))
-    ≡ length (process_bytes w) + length (flat_map process_bytes (written_by ps es)) =
-    ap length (flat_map-cons process_bytes w (written_by ps es))
-    ∙ length-append (process_bytes w) (flat_map process_bytes (written_by ps es)) in
+processes_long (p ∷ ps) (e ∷ es) each =
+    let rest = processes_long ps es each.1 in
+    let it : Written = record { process = p; extra = Some e } in
+    let one = process_long p (Some e) each.0 in
+    let parts : length (flat_map process_bytes (it ∷ written_by ps es))
+    ≡ length (process_bytes it) + length (flat_map process_bytes (written_by ps es)) =
+    ap length (flat_map-cons process_bytes it (written_by ps es))
+    ∙ length-append (process_bytes it) (flat_map process_bytes (written_by ps es)) in
     omega (arith, rest, one, parts)
 
 -- edges have 2 bytes each, at most
@@ -287,23 +291,34 @@ edges_long es = pieces edge_bytes 2 es (each es) where
 named : (k n : ℕ) (ps : List HeadProcess) → k ≤ 8 → AllByRecursion (IsHeadProcess k n) ps →
     AllByRecursion (λ p. IsName p.name) ps →
     AllByRecursion IsNamed ps
-named k n [] few a b = tt
-named k n (p ∷ ps) few a b =
-    (record { name = b.0; times = let count = a.0.count in omega (arith, count, few) }, named k n ps few a.1 b.1)
+named k n [] few lawful names = tt
+named k n (p ∷ ps) few lawful names = (
+  record { name = names.0; times = let count = lawful.0.count in omega (arith, count, few) },
+  named k n ps few lawful.1 names.1,
+)
 
 -- a lawful head has at most 20,000 bytes: its nine fields (`parts`) with 16 names, 128 processes and 256 edges
 head_long : (h : Head) → IsPackHead h → length (head_bytes h) ≤ 20000
-head_long h q =
+head_long h is_pack_head =
     let parts = nine (to_be_bytes w32 magic) (byte (version_of h)) (byte h.faults) (byte (length h.nodes))
     (flat_map name_bytes h.nodes) (byte (length h.processes))
     (flat_map process_bytes (written h)) (to_be_bytes w16 (length h.edges)) (flat_map edge_bytes h.edges) in
-    let nodes = all_pieces IsName name_bytes 33 h.nodes name_long q.nodes in
+    let nodes = all_pieces IsName name_bytes 33 h.nodes name_long is_pack_head.nodes in
     let processes = processes_long h.processes (unwrap_or h.extras [])
-    (named h.faults (length h.nodes) h.processes q.within.faults
-    (recursion_from_All (IsHeadProcess h.faults (length h.nodes)) h.processes q.within.processes)
-    (recursion_from_All (λ p. IsName p.name) h.processes q.processes)) in
+    (named h.faults (length h.nodes) h.processes is_pack_head.within.faults
+    (recursion_from_All (IsHeadProcess h.faults (length h.nodes)) h.processes is_pack_head.within.processes)
+    (recursion_from_All (λ p. IsName p.name) h.processes is_pack_head.processes)) in
     let edges = edges_long h.edges in
-    omega (arith, parts, nodes, processes, edges, q.within.few_nodes, q.within.few_processes, q.within.few_edges)
+    omega (
+      arith,
+      parts,
+      nodes,
+      processes,
+      edges,
+      is_pack_head.within.few_nodes,
+      is_pack_head.within.few_processes,
+      is_pack_head.within.few_edges,
+    )
 
 -- ---- the whole
 

@@ -42,34 +42,34 @@ module _ {L S A : Type 0} (step : S → A → S) (one : L → S → Reader A)
   parts_to : (l : L) (ls : List L) (s : S) (d : A) → Inv (l ∷ ls) s → (ys : List A) → Parts l ls s d ys →
       G (l ∷ ls) s ys
   unfolding Parts
-  parts_to l ls s d inv [] p = absurd (let h : [] ≡ d ∷ [] = p.1.1 in cc)
-  parts_to l ls s d inv (x ∷ xs) p = cons l ls s x xs inv p.0 p.1.0
+  parts_to l ls s d inv [] parts = absurd (let equal : [] ≡ d ∷ [] = parts.1.1 in cc)
+  parts_to l ls s d inv (x ∷ xs) parts = cons l ls s x xs inv parts.0 parts.1.0
 
   -- if G holds of a list, that is so of it
   parts_from : (l : L) (ls : List L) (s : S) (d : A) → Inv (l ∷ ls) s → (ys : List A) → G (l ∷ ls) s ys →
       Parts l ls s d ys
   unfolding Parts
-  parts_from l ls s d inv [] g = absurd (cons_only l ls s g)
-  parts_from l ls s d inv (x ∷ xs) g = let u = uncons l ls s x xs inv g in (u.0, (u.1, refl))
+  parts_from l ls s d inv [] holds = absurd (cons_only l ls s holds)
+  parts_from l ls s d inv (x ∷ xs) holds = let parts = uncons l ls s x xs inv holds in (parts.0, (parts.1, refl))
 
   -- the spelling of the first element and those of the others are that of the list
   parts_spell : (l : L) (ls : List L) (s : S) (d : A) (ys : List A) → G (l ∷ ls) s ys →
       spell (head_or d ys) ++ (flat_map spell (tail_of ys) ++ []) ≡ flat_map spell ys
-  parts_spell l ls s d [] g = absurd (cons_only l ls s g)
-  parts_spell l ls s d (x ∷ xs) g = ap (λ (t : List ℕ). spell x ++ t) (append-nil (flat_map spell xs))
+  parts_spell l ls s d [] holds = absurd (cons_only l ls s holds)
+  parts_spell l ls s d (x ∷ xs) holds = ap (λ (t : List ℕ). spell x ++ t) (append-nil (flat_map spell xs))
 
   -- without labels G holds of the empty list
   nil_to : (s : S) → Inv [] s → (ys : List A) → ys ≡ [] → G [] s ys
-  nil_to s inv ys e = subst (λ (zs : List A). G [] s zs) (sym e) (nil s inv)
+  nil_to s inv ys is_empty = subst (λ (zs : List A). G [] s zs) (sym is_empty) (nil s inv)
 
   -- without labels G holds of no other list
   nil_from : (s : S) (ys : List A) → G [] s ys → ys ≡ []
-  nil_from s [] g = refl
-  nil_from s (y ∷ ys) g = absurd (nil_only s y ys g)
+  nil_from s [] holds = refl
+  nil_from s (y ∷ ys) holds = absurd (nil_only s y ys holds)
 
   -- its spelling is empty
   nil_spell : (s : S) (ys : List A) → G [] s ys → [] ≡ flat_map spell ys
-  nil_spell s ys g = ap (flat_map spell) (sym (nil_from s ys g))
+  nil_spell s ys holds = ap (flat_map spell) (sym (nil_from s ys holds))
 
   -- the readers of all labels, one after another, read exactly the spellings of the lists of which G holds; by induction on
   -- the labels: the reader of the first, then those of the others, by `then_reads` twice
@@ -77,17 +77,17 @@ module _ {L S A : Type 0} (step : S → A → S) (one : L → S → Reader A)
   unfolding Parts
   each_reads [] s inv = adapt (pure_reads []) (nil_to s inv) (nil_from s) (nil_spell s)
   each_reads (l ∷ ls) s inv =
-      let d = (item l ls s inv).some in
+      let some = (item l ls s inv).some in
       adapt
       (then_reads (Fits l ls s) spell (one l s)
       (λ x ys. G ls (step s x) (tail_of ys) × (ys ≡ x ∷ tail_of ys)) (λ x ys. flat_map spell (tail_of ys) ++ [])
-      (λ x. read_each step one ls (step s x) >>= λ xs. pure (x ∷ xs)) (head_or d)
+      (λ x. read_each step one ls (step s x) >>= λ xs. pure (x ∷ xs)) (head_or some)
       (item l ls s inv)
       (λ x fx. then_reads (G ls (step s x)) (flat_map spell) (read_each step one ls (step s x))
       (λ xs ys. ys ≡ x ∷ xs) (λ xs ys. []) (λ xs. pure (x ∷ xs)) tail_of
       (each_reads ls (step s x) (keeps l ls s x inv fx)) (λ xs g. pure_reads (x ∷ xs)) (λ xs ys g e. ap tail_of e))
-      (λ x ys fx p. ap (head_or d) p.1))
-      (parts_to l ls s d inv) (parts_from l ls s d inv) (parts_spell l ls s d)
+      (λ x ys fx p. ap (head_or some) p.1))
+      (parts_to l ls s some inv) (parts_from l ls s some inv) (parts_spell l ls s some)
 
 -- a list of n values with a property
 abbrev pub AreAll : {A : Type 0} → (A → Type 0) → ℕ → List A → Type 0
@@ -108,9 +108,9 @@ times_reads Fits spell r n one =
     (each_reads (λ (s : ℕ) x. s) (λ (l : ℕ) s. r) (λ ls s. 0 < length ls → Reads Fits spell r)
     (λ l ls s x. Fits x) spell (λ ls s xs. AreAll Fits (length ls) xs)
     (λ l ls s i. i (omega arith)) (λ l ls s x i f _. i (omega arith)) (λ s i. (refl, tt))
-    (λ s x xs g. absurd (let h : suc (length xs) ≡ 0 = g.0 in omega arith))
-    (λ l ls s g. absurd (let h : 0 ≡ suc (length ls) = g.0 in omega arith))
+    (λ s x xs g. absurd (let none : suc (length xs) ≡ 0 = g.0 in omega arith))
+    (λ l ls s g. absurd (let none : 0 ≡ suc (length ls) = g.0 in omega arith))
     (λ l ls s x xs i f g. (ap suc g.0, (f, g.1)))
-    (λ l ls s x xs i g. let h : suc (length xs) ≡ suc (length ls) = g.0 in (g.1.0, (omega arith, g.1.1)))
+    (λ l ls s x xs i g. let counts : suc (length xs) ≡ suc (length ls) = g.0 in (g.1.0, (omega arith, g.1.1)))
     (down n) 0 (λ some. one (omega (arith, down_is n))))
     (λ xs g. (g.0 ∙ down_is n, g.1)) (λ xs g. (g.0 ∙ sym (down_is n), g.1)) (λ xs g. refl)

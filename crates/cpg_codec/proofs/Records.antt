@@ -30,15 +30,16 @@ nine bytes = get_or bytes 0 0 ∷ get_or bytes 1 0 ∷ get_or bytes 2 0 ∷ get_
 
 -- as many bytes as are left after two are all of them
 rest_2 : (a b : ℕ) (rest : List ℕ) → take (length (a ∷ b ∷ rest) - 2) rest ≡ rest
-rest_2 a b rest = let e : length (a ∷ b ∷ rest) - 2 ≡ length rest = omega arith in rw e (take-length rest)
+rest_2 a b rest = let count_is : length (a ∷ b ∷ rest) - 2 ≡ length rest = omega arith in rw count_is (take-length rest)
 
 -- as many bytes as are left after three are all of them
 rest_3 : (a b c : ℕ) (rest : List ℕ) → take (length (a ∷ b ∷ c ∷ rest) - 3) rest ≡ rest
-rest_3 a b c rest = let e : length (a ∷ b ∷ c ∷ rest) - 3 ≡ length rest = omega arith in rw e (take-length rest)
+rest_3 a b c rest =
+    let count_is : length (a ∷ b ∷ c ∷ rest) - 3 ≡ length rest = omega arith in rw count_is (take-length rest)
 
 -- as many bytes as are left after nine are all of them
 rest_9 : (n : ℕ) (rest : List ℕ) → n ≡ length rest + 9 → take (n - 9) rest ≡ rest
-rest_9 n rest h = let e : n - 9 ≡ length rest = omega arith in rw e (take-length rest)
+rest_9 n rest count_is = let left_is : n - 9 ≡ length rest = omega arith in rw left_is (take-length rest)
 
 -- the number of the first of two bytes
 first_of_2 : (a b : ℕ) → field 0 1 (a ∷ b ∷ []) ≡ a
@@ -70,9 +71,9 @@ pub edge_found : (processes : ℕ) (bytes fields : List ℕ) (from to : ℕ) →
 edge_found processes [] fields from to some few long ef e0 e1 lf lt = absurd (omega arith)
 edge_found processes (a ∷ []) fields from to some few long ef e0 e1 lf lt = absurd (omega arith)
 edge_found processes (a ∷ b ∷ rest) fields from to some few long ef e0 e1 lf lt =
-    let p : a ≡ from = sym (e0 ∙ ap (field 0 1) ef ∙ first_of_2 a b) in
-    let q : b ≡ to = sym (e1 ∙ ap (field 1 1) ef ∙ second_of_2 a b) in
-    ap₂ (λ (x : ℕ) (y : ℕ). read_edge processes (x ∷ y ∷ rest)) p q
+    let from_is : a ≡ from = sym (e0 ∙ ap (field 0 1) ef ∙ first_of_2 a b) in
+    let to_is : b ≡ to = sym (e1 ∙ ap (field 1 1) ef ∙ second_of_2 a b) in
+    ap₂ (λ (x : ℕ) (y : ℕ). read_edge processes (x ∷ y ∷ rest)) from_is to_is
     ∙ (edge_reads processes some few).again (from, to) rest (record { from = lf; to = lt }) ∙
     ap (λ (t : List ℕ). Ok ((from, to), t)) (sym (rest_2 a b rest))
 
@@ -86,9 +87,9 @@ pub place_found : (nodes ones : ℕ) (bytes fields : List ℕ) (node flag : ℕ)
 place_found nodes ones [] fields node flag some few long ef e0 e1 l0 l1 = absurd (omega arith)
 place_found nodes ones (a ∷ []) fields node flag some few long ef e0 e1 l0 l1 = absurd (omega arith)
 place_found nodes ones (a ∷ b ∷ rest) fields node flag some few long ef e0 e1 l0 l1 =
-    let p : a ≡ node = sym (e0 ∙ ap (field 0 1) ef ∙ first_of_2 a b) in
-    let q : b ≡ flag = sym (e1 ∙ ap (field 1 1) ef ∙ second_of_2 a b) in
-    ap₂ (λ (x : ℕ) (y : ℕ). read_place nodes ones (x ∷ y ∷ rest)) p q
+    let node_is : a ≡ node = sym (e0 ∙ ap (field 0 1) ef ∙ first_of_2 a b) in
+    let flag_is : b ≡ flag = sym (e1 ∙ ap (field 1 1) ef ∙ second_of_2 a b) in
+    ap₂ (λ (x : ℕ) (y : ℕ). read_place nodes ones (x ∷ y ∷ rest)) node_is flag_is
     ∙ (place_reads nodes ones some few).again (node, flag) rest (omega arith, l1) ∙
     ap (λ (t : List ℕ). Ok ((node, flag), t)) (sym (rest_2 a b rest))
 
@@ -103,22 +104,35 @@ pub literal_found : (s : VariableSpace) (left least : ℕ) (bytes fields : List 
       record { variable = variable; low = low; high = high },
       take (length bytes - 3) (drop 3 bytes),
     )
-literal_found s left least [] fields v lo hi i long ef e0 e1 e2 m a b c = absurd (omega arith)
-literal_found s left least (x ∷ []) fields v lo hi i long ef e0 e1 e2 m a b c = absurd (omega arith)
-literal_found s left least (x ∷ y ∷ []) fields v lo hi i long ef e0 e1 e2 m a b c = absurd (omega arith)
-literal_found s left least (x ∷ y ∷ z ∷ rest) fields v lo hi i long ef e0 e1 e2 m a b c =
+literal_found s left least [] fields v lo hi is_space long ef e0 e1 e2 may_come low_fits ordered high_fits =
+    absurd (omega arith)
+literal_found s left least (x ∷ []) fields v lo hi is_space long ef e0 e1 e2 may_come low_fits ordered high_fits =
+    absurd (omega arith)
+literal_found s left least (x ∷ y ∷ []) fields v lo hi is_space long ef e0 e1 e2 may_come low_fits ordered high_fits =
+    absurd (omega arith)
+literal_found s left least (x ∷ y ∷ z ∷ rest) fields v lo hi is_space long ef e0 e1 e2 may_come low_fits ordered
+    high_fits =
     -- the three bytes are the variable, the low and the high
-    let p : x ≡ v = sym (e0 ∙ ap (field 0 1) ef ∙ first_of_3 x y z) in
-    let q : y ≡ lo = sym (e1 ∙ ap (field 1 1) ef ∙ second_of_3 x y z) in
-    let r : z ≡ hi = sym (e2 ∙ ap (field 2 1) ef ∙ third_of_3 x y z) in
+    let variable_is : x ≡ v = sym (e0 ∙ ap (field 0 1) ef ∙ first_of_3 x y z) in
+    let low_is : y ≡ lo = sym (e1 ∙ ap (field 1 1) ef ∙ second_of_3 x y z) in
+    let high_is : z ≡ hi = sym (e2 ∙ ap (field 2 1) ef ∙ third_of_3 x y z) in
     -- the variable is allowed, and there is room for the literals after it
-    let n = may_to s least left v m in
-    let k = room_step s least v (few_fault s i) n.0 n.1 in
+    let known = may_to s least left v may_come in
+    let room = room_step s least v (few_fault s is_space) known.0 known.1 in
     -- so they spell a lawful literal, which the reader of literals reads
-    ap₂ (λ (f : ℕ) (g : ℕ). read_literal s left least (f ∷ g ∷ z ∷ rest)) p q
-    ∙ ap (λ (h : ℕ). read_literal s left least (v ∷ lo ∷ h ∷ rest)) r
-    ∙ (literal_reads s left least i (omega (arith, k, n.2))).again (record { variable = v; low = lo; high = hi }) rest
-    (record { rises = n.0; lawful = record { allowed = n.1; range = range_to (ltb v 128) s lo hi (λ e. fault_some s v n.1 e) a b c }; leaves = n.2 })
+    ap₂ (λ (f : ℕ) (g : ℕ). read_literal s left least (f ∷ g ∷ z ∷ rest)) variable_is low_is
+    ∙ ap (λ (h : ℕ). read_literal s left least (v ∷ lo ∷ h ∷ rest)) high_is
+    ∙ (literal_reads s left least is_space (omega (arith, room, known.2))).again
+    (record { variable = v; low = lo; high = hi }) rest
+    (record {
+      rises = known.0;
+      lawful = record {
+        allowed = known.1;
+        range = range_to (ltb v 128) s lo hi (λ of_fault. fault_some s v known.1 of_fault)
+            low_fits ordered high_fits;
+      };
+      leaves = known.2;
+    })
     ∙ ap (λ (t : List ℕ). Ok (record { variable = v; low = lo; high = hi }, t)) (sym (rest_3 x y z rest))
 
 -- the number of the first eight of nine bytes
@@ -136,14 +150,14 @@ front_here : (s : VariableSpace) (a b c d e f g h i : ℕ) (rest fields : List �
     fields ≡ a ∷ b ∷ c ∷ d ∷ e ∷ f ∷ g ∷ h ∷ i ∷ [] → time ≡ field 0 8 fields → count ≡ field 8 1 fields
     → time < 2 ^ 60 → count ≤ variable_count_from s 0 →
     read_front s (a ∷ b ∷ c ∷ d ∷ e ∷ f ∷ g ∷ h ∷ i ∷ rest) ≡ Ok ((time, count), rest)
-front_here s a b c d e f g h i rest fields time count k fits ef e0 e1 lt le =
-    let t : time ≡ from_be_bytes w64 (a ∷ b ∷ c ∷ d ∷ e ∷ f ∷ g ∷ h ∷ []) =
+front_here s a b c d e f g h i rest fields time count is_space fits ef e0 e1 lt le =
+    let time_is : time ≡ from_be_bytes w64 (a ∷ b ∷ c ∷ d ∷ e ∷ f ∷ g ∷ h ∷ []) =
     e0 ∙ ap (field 0 8) ef ∙ column_long a b c d e f g h i in
-    let n : i ≡ count = sym (e1 ∙ ap (field 8 1) ef ∙ column_last a b c d e f g h i) in
-    let q : to_be_bytes w64 time ≡ a ∷ b ∷ c ∷ d ∷ e ∷ f ∷ g ∷ h ∷ [] =
-    be_bytes_8 (a ∷ b ∷ c ∷ d ∷ e ∷ f ∷ g ∷ h ∷ []) time refl fits t in
-    ap₂ (λ (xs : List ℕ) (m : ℕ). read_front s ((xs ++ byte m) ++ rest)) (sym q) n
-    ∙ (front_reads s k).again (time, count) rest (lt, le)
+    let count_is : i ≡ count = sym (e1 ∙ ap (field 8 1) ef ∙ column_last a b c d e f g h i) in
+    let spelled : to_be_bytes w64 time ≡ a ∷ b ∷ c ∷ d ∷ e ∷ f ∷ g ∷ h ∷ [] =
+    be_bytes_8 (a ∷ b ∷ c ∷ d ∷ e ∷ f ∷ g ∷ h ∷ []) time refl fits time_is in
+    ap₂ (λ (xs : List ℕ) (m : ℕ). read_front s ((xs ++ byte m) ++ rest)) (sym spelled) count_is
+    ∙ (front_reads s is_space).again (time, count) rest (lt, le)
 
 -- the grammar reads a column's first nine bytes, if they are in these bounds, from any list that has as many (`front_here`);
 -- shorter lists contradict `long`
@@ -152,17 +166,19 @@ pub front_found : (s : VariableSpace) (bytes fields : List ℕ) (time count : �
     time ≡ field 0 8 fields →
     count ≡ field 8 1 fields → time < 2 ^ 60 → count ≤ variable_count_from s 0
     → read_front s bytes ≡ Ok ((time, count), take (length bytes - 9) (drop 9 bytes))
-front_found s (a ∷ b ∷ c ∷ d ∷ e ∷ f ∷ g ∷ h ∷ i ∷ rest) fields time count k long fits ef e0 e1 lt le =
-    front_here s a b c d e f g h i rest fields time count k
+front_found s (a ∷ b ∷ c ∷ d ∷ e ∷ f ∷ g ∷ h ∷ i ∷ rest) fields time count is_space long fits ef e0 e1 lt le =
+    front_here s a b c d e f g h i rest fields time count is_space
     (first_fits (a ∷ b ∷ c ∷ d ∷ e ∷ f ∷ g ∷ h ∷ i ∷ rest) fits) ef e0 e1 lt le
     ∙ ap (λ (t : List ℕ). Ok ((time, count), t))
     (sym (rest_9 (length (a ∷ b ∷ c ∷ d ∷ e ∷ f ∷ g ∷ h ∷ i ∷ rest)) rest (omega arith)))
-front_found s [] fields time count k long fits ef e0 e1 lt le = absurd (omega arith)
-front_found s (a ∷ []) fields time count k long fits ef e0 e1 lt le = absurd (omega arith)
-front_found s (a ∷ b ∷ []) fields time count k long fits ef e0 e1 lt le = absurd (omega arith)
-front_found s (a ∷ b ∷ c ∷ []) fields time count k long fits ef e0 e1 lt le = absurd (omega arith)
-front_found s (a ∷ b ∷ c ∷ d ∷ []) fields time count k long fits ef e0 e1 lt le = absurd (omega arith)
-front_found s (a ∷ b ∷ c ∷ d ∷ e ∷ []) fields time count k long fits ef e0 e1 lt le = absurd (omega arith)
-front_found s (a ∷ b ∷ c ∷ d ∷ e ∷ f ∷ []) fields time count k long fits ef e0 e1 lt le = absurd (omega arith)
-front_found s (a ∷ b ∷ c ∷ d ∷ e ∷ f ∷ g ∷ []) fields time count k long fits ef e0 e1 lt le = absurd (omega arith)
-front_found s (a ∷ b ∷ c ∷ d ∷ e ∷ f ∷ g ∷ h ∷ []) fields time count k long fits ef e0 e1 lt le = absurd (omega arith)
+front_found s [] fields time count is_space long fits ef e0 e1 lt le = absurd (omega arith)
+front_found s (a ∷ []) fields time count is_space long fits ef e0 e1 lt le = absurd (omega arith)
+front_found s (a ∷ b ∷ []) fields time count is_space long fits ef e0 e1 lt le = absurd (omega arith)
+front_found s (a ∷ b ∷ c ∷ []) fields time count is_space long fits ef e0 e1 lt le = absurd (omega arith)
+front_found s (a ∷ b ∷ c ∷ d ∷ []) fields time count is_space long fits ef e0 e1 lt le = absurd (omega arith)
+front_found s (a ∷ b ∷ c ∷ d ∷ e ∷ []) fields time count is_space long fits ef e0 e1 lt le = absurd (omega arith)
+front_found s (a ∷ b ∷ c ∷ d ∷ e ∷ f ∷ []) fields time count is_space long fits ef e0 e1 lt le = absurd (omega arith)
+front_found s (a ∷ b ∷ c ∷ d ∷ e ∷ f ∷ g ∷ []) fields time count is_space long fits ef e0 e1 lt le =
+    absurd (omega arith)
+front_found s (a ∷ b ∷ c ∷ d ∷ e ∷ f ∷ g ∷ h ∷ []) fields time count is_space long fits ef e0 e1 lt le =
+    absurd (omega arith)

@@ -12,13 +12,13 @@ use Rattle.cpg_codec.specs.Writing.{IsShortEdge}
 -- if a property holds of each element of xs ++ ys, it holds of each of xs and of each of ys; by recursion on xs
 split : {X : Type 0} (P : X → Type 0) (xs ys : List X) → AllByRecursion P (xs ++ ys) →
     AllByRecursion P xs × AllByRecursion P ys
-split P [] ys h = (tt, h)
-split P (x ∷ xs) ys h = let r = split P xs ys h.1 in ((h.0, r.0), r.1)
+split P [] ys holds = (tt, holds)
+split P (x ∷ xs) ys holds = let parts = split P xs ys holds.1 in ((holds.0, parts.0), parts.1)
 
 -- `split` for `All`, which speaks of the elements by index
 pub All-parts : {X : Type 0} (P : X → Type 0) (xs ys : List X) → All P (xs ++ ys) → All P xs × All P ys
-All-parts P xs ys h = let r = split P xs ys (recursion_from_All P (xs ++ ys) h) in
-    (All-from_recursion P xs r.0, All-from_recursion P ys r.1)
+All-parts P xs ys holds = let parts = split P xs ys (recursion_from_All P (xs ++ ys) holds) in
+    (All-from_recursion P xs parts.0, All-from_recursion P ys parts.1)
 
 -- the bytes of a table are those of its start rows, of its send rows and of its hear rows
 pub table_parts : (t : NodeTable) →
@@ -28,5 +28,7 @@ table_parts t = flat_map-append row_bytes t.starts (t.sends ++ t.hears)
 
 -- each end of a head's edge fits into a byte: it is less than the number of processes, which is at most 128
 pub short_edges : (h : Head) → IsHead h → All IsShortEdge h.edges
-short_edges h q = All-weaker (IsHeadEdge (length h.processes)) IsShortEdge (λ e k.
-    record { from = omega (arith, k.from, q.few_processes); to = omega (arith, k.to, q.few_processes) }) h.edges q.edges
+short_edges h lawful = All-weaker (IsHeadEdge (length h.processes)) IsShortEdge (λ e is_edge. record {
+  from = omega (arith, is_edge.from, lawful.few_processes);
+  to = omega (arith, is_edge.to, lawful.few_processes);
+}) h.edges lawful.edges

@@ -8,18 +8,18 @@ use Rattle.cpg_codec.specs.Grammar.{read_small}
 
 -- as many bytes as are left after one are all of them
 take_rest : (rest : List ℕ) → take (suc (length rest) - 1) rest ≡ rest
-take_rest rest = let e : suc (length rest) - 1 ≡ length rest = omega arith in rw e (take-length rest)
+take_rest rest = let count_is : suc (length rest) - 1 ≡ length rest = omega arith in rw count_is (take-length rest)
 
 -- a byte from `low` to `high` is read: as the last digit it makes a number from `low` to `high`, so it passes the test
 pub small_good : (low high b : ℕ) (rest : List ℕ) → b < 256 → low ≤ b → b ≤ high →
     read_small low high (b ∷ rest) ≡ Ok (b, rest)
 unfolding read_digits
 small_good low high b rest lt lo hi =
-    let t : digit_may (within low high) 0 0 b ≡ true =
+    let passes : digit_may (within low high) 0 0 b ≡ true =
     and_from (ltb b 256) (within low high ((0 * 256 + b) * 256 ^ 0) ((0 * 256 + b + 1) * 256 ^ 0)) (lt-ltb b 256 lt)
     (and_from (ltb low ((0 * 256 + b + 1) * 256 ^ 0)) (leb ((0 * 256 + b) * 256 ^ 0) high) (lt-ltb low _ (omega arith))
     (le-leb _ high (omega arith))) in
-    rw t (ap (λ (n : ℕ). Ok (n, rest)) (first_digit b)) where
+    rw passes (ap (λ (n : ℕ). Ok (n, rest)) (first_digit b)) where
       first_digit : (b : ℕ) → 0 * 256 + b ≡ b
       first_digit b = omega arith
 
@@ -27,21 +27,21 @@ small_good low high b rest lt lo hi =
 pub small_low : (low high b : ℕ) (rest : List ℕ) → b < low → read_small low high (b ∷ rest) ≡ Err (suc (length rest))
 unfolding read_digits
 small_low low high b rest lt =
-    let t : digit_may (within low high) 0 0 b ≡ false =
+    let fails : digit_may (within low high) 0 0 b ≡ false =
     and_right (ltb b 256) (within low high ((0 * 256 + b) * 256 ^ 0) ((0 * 256 + b + 1) * 256 ^ 0))
     (and_left (ltb low ((0 * 256 + b + 1) * 256 ^ 0)) (leb ((0 * 256 + b) * 256 ^ 0) high)
     (le-ltb low _ (omega arith))) in
-    rw t refl
+    rw fails refl
 
 -- a byte above `high` is bad, so it and the rest are left
 pub small_high : (low high b : ℕ) (rest : List ℕ) → high < b → read_small low high (b ∷ rest) ≡ Err (suc (length rest))
 unfolding read_digits
 small_high low high b rest lt =
-    let t : digit_may (within low high) 0 0 b ≡ false =
+    let fails : digit_may (within low high) 0 0 b ≡ false =
     and_right (ltb b 256) (within low high ((0 * 256 + b) * 256 ^ 0) ((0 * 256 + b + 1) * 256 ^ 0))
     (and_right (ltb low ((0 * 256 + b + 1) * 256 ^ 0)) (leb ((0 * 256 + b) * 256 ^ 0) high)
     (lt-leb ((0 * 256 + b) * 256 ^ 0) high (omega arith))) in
-    rw t refl
+    rw fails refl
 
 -- without a byte the bytes end too early, and none is left
 pub small_end : (low high : ℕ) → read_small low high [] ≡ Err 0

@@ -47,12 +47,12 @@ pub record FitsRow (s : VariableSpace) (item columns_read : ℕ) (r : Row) : Typ
 pub row_reads : (s : VariableSpace) (item columns_read : ℕ) → IsSpace s → columns_read ≤ most →
     Reads (FitsRow s item columns_read) row_bytes (read_row s item columns_read)
 unfolding read_row
-row_reads s item columns_read i le =
+row_reads s item columns_read is_space le =
     adapt
     (seq (λ (r : Row). length r.columns)
     (field_reads 2 0 (min MOST_COLUMNS (most - columns_read)) (omega arith) (omega arith))
     (λ n fn. seq (λ (r : Row). r.columns)
-    (times_reads (IsLawfulColumn s) column_bytes (read_column s) n (λ _. column_reads s i))
+    (times_reads (IsLawfulColumn s) column_bytes (read_column s) n (λ _. column_reads s is_space))
     (λ cs fcs. pure_reads (record { item = item; columns = cs }))
     (λ cs r fcs h. ap (λ (q : Row). q.columns) h))
     (λ n r fn h. h.0.0))
@@ -85,25 +85,25 @@ count_more r rs = sum_by-cons (λ (q : Row). length q.columns) r rs
 
 -- equal lists have equal first elements and equal rests
 first_items : (a b : ℕ) (xs ys : List ℕ) → a ∷ xs ≡ b ∷ ys → (a ≡ b) × (xs ≡ ys)
-first_items a b xs ys e = (cc, cc)
+first_items a b xs ys same = (cc, cc)
 
 -- a list with an element isn't empty
 none_first : (a : ℕ) (xs : List ℕ) → a ∷ xs ≡ [] → ⊥
-none_first a xs e = cc
+none_first a xs same = cc
 
 -- an empty list has no element
 none_last : (a : ℕ) (xs : List ℕ) → [] ≡ a ∷ xs → ⊥
-none_last a xs e = cc
+none_last a xs same = cc
 
 -- The reader of rows reads exactly the bytes of lawful rows of these items. `each_reads` goes from item to item with the
 -- number of columns so far; its invariant is that this is within the limit.
 pub rows_reads : (s : VariableSpace) (items : List ℕ) (columns_read : ℕ) → IsSpace s → columns_read ≤ most →
     Reads (FitRows s items columns_read) (flat_map row_bytes) (read_rows s items columns_read)
 unfolding read_rows
-rows_reads s items columns_read i le =
+rows_reads s items columns_read is_space le =
     each_reads (λ (c : ℕ) (r : Row). c + length r.columns) (read_row s)
     (λ ls c. c ≤ most) (λ l ls c. FitsRow s l c) row_bytes (λ ls c rs. FitRows s ls c rs)
-    (λ l ls c inv. row_reads s l c i inv)
+    (λ l ls c inv. row_reads s l c is_space inv)
     (λ l ls c r inv f. f.room)
     (λ c inv. record { items_are = refl; lawful = tt; room = omega arith })
     (λ c r rs g. none_first r.item (items_of rs) g.items_are)
@@ -114,9 +114,9 @@ rows_reads s items columns_read i le =
       room = omega (arith, count_more r rs, g.room);
     })
     (λ l ls c r rs inv g.
-    let p = first_items r.item l (items_of rs) ls g.items_are in (
-      record { item_is = p.0; lawful = g.lawful.0; room = omega (arith, count_more r rs, g.room) },
-      record { items_are = p.1; lawful = g.lawful.1; room = omega (arith, count_more r rs, g.room) },
+    let same = first_items r.item l (items_of rs) ls g.items_are in (
+      record { item_is = same.0; lawful = g.lawful.0; room = omega (arith, count_more r rs, g.room) },
+      record { items_are = same.1; lawful = g.lawful.1; room = omega (arith, count_more r rs, g.room) },
     ))
     items columns_read le
 
@@ -147,14 +147,14 @@ items-drop (suc n) [] = refl
 items-drop (suc n) (r ∷ rs) = items-drop n rs
 
 -- given: rows whose items are those of three lists, one after another
-module _ (rs : List Row) (s t u : List ℕ) (e : items_of rs ≡ s ++ (t ++ u)) where
+module _ (rs : List Row) (s t u : List ℕ) (items_are : items_of rs ≡ s ++ (t ++ u)) where
   -- the first rows have the items of the first list
   first_part : items_of (take (length s) rs) ≡ s
-  first_part = items-take (length s) rs ∙ ap (take (length s)) e ∙ take-append_seam s (t ++ u)
+  first_part = items-take (length s) rs ∙ ap (take (length s)) items_are ∙ take-append_seam s (t ++ u)
 
   -- the rows after them have the items of the other two
   behind : items_of (drop (length s) rs) ≡ t ++ u
-  behind = items-drop (length s) rs ∙ ap (drop (length s)) e ∙ drop-append_seam s (t ++ u)
+  behind = items-drop (length s) rs ∙ ap (drop (length s)) items_are ∙ drop-append_seam s (t ++ u)
 
   -- the rows in the middle have the items of the second list
   second_part : items_of (take (length t) (drop (length s) rs)) ≡ t
@@ -169,22 +169,23 @@ module _ (rs : List Row) (s t u : List ℕ) (e : items_of rs ≡ s ++ (t ++ u)) 
 pub made_table : (h : Head) (a : ℕ) (rs : List Row) → items_of rs ≡ items_of_node h a →
     All (IsLawfulRow (space_of h)) rs →
     IsTableOf h a (table_from h a rs)
-made_table h a rs e all = record {
+made_table h a rs items_are all = record {
   faults = refl;
   first_broadcast = refl;
   own = refl;
-  starts = first_part rs (starts_of h a) (sends_of h a) (hears_of h a) e;
-  sends = second_part rs (starts_of h a) (sends_of h a) (hears_of h a) e;
-  hears = third_part rs (starts_of h a) (sends_of h a) (hears_of h a) e;
+  starts = first_part rs (starts_of h a) (sends_of h a) (hears_of h a) items_are;
+  sends = second_part rs (starts_of h a) (sends_of h a) (hears_of h a) items_are;
+  hears = third_part rs (starts_of h a) (sends_of h a) (hears_of h a) items_are;
   lawful = subst (All (IsLawfulRow (space_of h))) (sym (rows_again h a rs)) all;
 }
 
 -- the rows of a node's table are of the items of the node, in their order
 pub table_items : (h : Head) (a : ℕ) (t : NodeTable) → IsTableOf h a t → items_of (rows_of t) ≡ items_of_node h a
-table_items h a t q =
+table_items h a t lawful =
     map-append (λ (r : Row). r.item) t.starts (t.sends ++ t.hears)
-    ∙ ap₂ (λ (x : List ℕ) (y : List ℕ). x ++ y) q.starts
-    (map-append (λ (r : Row). r.item) t.sends t.hears ∙ ap₂ (λ (x : List ℕ) (y : List ℕ). x ++ y) q.sends q.hears)
+    ∙ ap₂ (λ (x : List ℕ) (y : List ℕ). x ++ y) lawful.starts
+    (map-append (λ (r : Row). r.item) t.sends t.hears
+    ∙ ap₂ (λ (x : List ℕ) (y : List ℕ). x ++ y) lawful.sends lawful.hears)
 
 -- a table is the record of parts that equal its own
 same_table : (t : NodeTable) (f b : ℕ) (o : List Own) (x y z : List Row) → f ≡ t.faults → b ≡ t.first_broadcast →
@@ -194,25 +195,25 @@ same_table t f b o x y z ef eb eo ex ey ez = rw (ef, eb, eo, ex, ey, ez) refl
 
 -- the first rows, as many as x has, are x
 starts_again : (n : ℕ) (x y : List Row) → n ≡ length x → take n (x ++ y) ≡ x
-starts_again n x y e = rw e (take-append_seam x y)
+starts_again n x y count_is = rw count_is (take-append_seam x y)
 
 -- the rows after them are y
 rest_again : (n : ℕ) (x y : List Row) → n ≡ length x → drop n (x ++ y) ≡ y
-rest_again n x y e = rw e (drop-append_seam x y)
+rest_again n x y count_is = rw count_is (drop-append_seam x y)
 
 -- the table of a node is the one that its rows make: cut by the numbers of starts and sends, they are its three parts
 pub table_again : (h : Head) (a : ℕ) (t : NodeTable) → IsTableOf h a t → t ≡ table_from h a (rows_of t)
-table_again h a t q =
-    let n : length (starts_of h a) ≡ length t.starts =
-    sym (ap length q.starts) ∙ length-map t.starts (λ (r : Row). r.item) in
-    let m : length (sends_of h a) ≡ length t.sends =
-    sym (ap length q.sends) ∙ length-map t.sends (λ (r : Row). r.item) in
-    let b : drop (length (starts_of h a)) (rows_of t) ≡ t.sends ++ t.hears =
-    rest_again (length (starts_of h a)) t.starts (t.sends ++ t.hears) n in
-    same_table t _ _ _ _ _ _ (sym q.faults) (sym q.first_broadcast) (sym q.own)
-    (starts_again (length (starts_of h a)) t.starts (t.sends ++ t.hears) n)
-    (ap (take (length (sends_of h a))) b ∙ starts_again (length (sends_of h a)) t.sends t.hears m)
-    (ap (drop (length (sends_of h a))) b ∙ rest_again (length (sends_of h a)) t.sends t.hears m)
+table_again h a t lawful =
+    let starts_count : length (starts_of h a) ≡ length t.starts =
+    sym (ap length lawful.starts) ∙ length-map t.starts (λ (r : Row). r.item) in
+    let sends_count : length (sends_of h a) ≡ length t.sends =
+    sym (ap length lawful.sends) ∙ length-map t.sends (λ (r : Row). r.item) in
+    let behind : drop (length (starts_of h a)) (rows_of t) ≡ t.sends ++ t.hears =
+    rest_again (length (starts_of h a)) t.starts (t.sends ++ t.hears) starts_count in
+    same_table t _ _ _ _ _ _ (sym lawful.faults) (sym lawful.first_broadcast) (sym lawful.own)
+    (starts_again (length (starts_of h a)) t.starts (t.sends ++ t.hears) starts_count)
+    (ap (take (length (sends_of h a))) behind ∙ starts_again (length (sends_of h a)) t.sends t.hears sends_count)
+    (ap (drop (length (sends_of h a))) behind ∙ rest_again (length (sends_of h a)) t.sends t.hears sends_count)
 
 -- a table of the node; with its columns, and `columns_read` before them, a pack has at most 524,288
 pub record FitsTable (h : Head) (a columns_read : ℕ) (t : NodeTable) : Type 0 where
@@ -226,9 +227,9 @@ pub record FitsTable (h : Head) (a columns_read : ℕ) (t : NodeTable) : Type 0 
 pub table_reads : (h : Head) (a columns_read : ℕ) → IsSpace (space_of h) → columns_read ≤ most →
     Reads (FitsTable h a columns_read) table_bytes (read_node_table h a columns_read)
 unfolding read_node_table
-table_reads h a columns_read i le =
+table_reads h a columns_read is_space le =
     adapt
-    (seq rows_of (rows_reads (space_of h) (items_of_node h a) columns_read i le)
+    (seq rows_of (rows_reads (space_of h) (items_of_node h a) columns_read is_space le)
     (λ rs frs. pure_reads (table_from h a rs))
     (λ rs t frs q. ap rows_of q ∙ rows_again h a rs))
     (λ t q. record {
@@ -271,10 +272,10 @@ pub record FitNodes (h : Head) (labels : List ℕ) (columns_read : ℕ) (ts : Li
 pub nodes_reads : (h : Head) → IsSpace (space_of h) →
     Reads (FitNodes h (numbers_from 0 (length h.nodes)) 0) (flat_map table_bytes) (read_nodes h)
 unfolding read_nodes
-nodes_reads h i =
+nodes_reads h is_space =
     each_reads (λ (c : ℕ) (t : NodeTable). c + column_count (rows_of t)) (read_node_table h)
     (λ ls c. c ≤ most) (λ l ls c. FitsTable h l c) table_bytes (λ ls c ts. FitNodes h ls c ts)
-    (λ l ls c inv. table_reads h l c i inv)
+    (λ l ls c inv. table_reads h l c is_space inv)
     (λ l ls c t inv f. f.room)
     (λ c inv. record { lawful = tt; room = omega arith })
     (λ c t ts g. g.lawful)
@@ -292,57 +293,58 @@ module _ {A : Type 0} (P : ℕ → A → Type 0) (d : A) where
   -- there are as many values as labels, from i on
   pub for_count : (i n : ℕ) (xs : List A) → AreFor P (numbers_from i n) xs → length xs ≡ n
   unfolding numbers_from
-  for_count i zero [] h = refl
-  for_count i zero (x ∷ xs) h = absurd h
-  for_count i (suc n) [] h = absurd h
-  for_count i (suc n) (x ∷ xs) h = ap suc (for_count (suc i) n xs h.1)
+  for_count i zero [] each = refl
+  for_count i zero (x ∷ xs) each = absurd each
+  for_count i (suc n) [] each = absurd each
+  for_count i (suc n) (x ∷ xs) each = ap suc (for_count (suc i) n xs each.1)
 
   -- the value at place j is that of the label i + j
   pub for_each : (i n : ℕ) (xs : List A) → AreFor P (numbers_from i n) xs → (j : ℕ) → j < n → P (i + j) (get_or xs j d)
   unfolding numbers_from
-  for_each i zero xs h j lt = absurd (omega arith)
-  for_each i (suc n) [] h j lt = absurd h
-  for_each i (suc n) (x ∷ xs) h zero lt = let e : i ≡ i + 0 = omega arith in subst (λ (k : ℕ). P k x) e h.0
-  for_each i (suc n) (x ∷ xs) h (suc j) lt = let e : suc i + j ≡ i + suc j = omega arith in
-      subst (λ (k : ℕ). P k (get_or xs j d)) e (for_each (suc i) n xs h.1 j (omega arith))
+  for_each i zero xs each j lt = absurd (omega arith)
+  for_each i (suc n) [] each j lt = absurd each
+  for_each i (suc n) (x ∷ xs) each zero lt = let same : i ≡ i + 0 = omega arith in subst (λ (k : ℕ). P k x) same each.0
+  for_each i (suc n) (x ∷ xs) each (suc j) lt = let same : suc i + j ≡ i + suc j = omega arith in
+      subst (λ (k : ℕ). P k (get_or xs j d)) same (for_each (suc i) n xs each.1 j (omega arith))
 
   -- values of which this holds, as many as there are labels, are a value for each label; by induction on the values
   pub for_from : (i n : ℕ) (xs : List A) → length xs ≡ n → ((j : ℕ) → j < n → P (i + j) (get_or xs j d)) →
       AreFor P (numbers_from i n) xs
   unfolding numbers_from
-  for_from i zero [] e h = tt
-  for_from i zero (x ∷ xs) e h = absurd (omega (arith, e))
-  for_from i (suc n) [] e h = absurd (omega (arith, e))
-  for_from i (suc n) (x ∷ xs) e h =
-      let z : i + 0 ≡ i = omega arith in (
-        subst (λ (k : ℕ). P k x) z (h 0 (omega arith)),
-        for_from (suc i) n xs (omega (arith, e))
-            (λ j lt. let s : i + suc j ≡ suc i + j = omega arith in
-            subst (λ (k : ℕ). P k (get_or xs j d)) s (h (suc j) (omega arith))),
+  for_from i zero [] count_is each = tt
+  for_from i zero (x ∷ xs) count_is each = absurd (omega (arith, count_is))
+  for_from i (suc n) [] count_is each = absurd (omega (arith, count_is))
+  for_from i (suc n) (x ∷ xs) count_is each =
+      let here : i + 0 ≡ i = omega arith in (
+        subst (λ (k : ℕ). P k x) here (each 0 (omega arith)),
+        for_from (suc i) n xs (omega (arith, count_is))
+            (λ j lt. let next : i + suc j ≡ suc i + j = omega arith in
+            subst (λ (k : ℕ). P k (get_or xs j d)) next (each (suc j) (omega arith))),
       )
 
 -- ---- the whole
 
 -- the variables of a head within its limits are a space
 pub head_space : (h : Head) → IsHead h → IsSpace (space_of h)
-head_space h q = record { faults = q.faults; processes = q.few_processes; conditions = q.few_conditions }
+head_space h lawful =
+    record { faults = lawful.faults; processes = lawful.few_processes; conditions = lawful.few_conditions }
 
 -- a table for each node, in order and not too many columns, are tables of the head
 nodes_to : (h : Head) (ts : List NodeTable) → FitNodes h (numbers_from 0 (length h.nodes)) 0 ts → AreTablesOf h ts
-nodes_to h ts q = record {
-  count = for_count (IsTableOf h) empty_table 0 (length h.nodes) ts q.lawful;
-  each = λ i lt. let e : 0 + i ≡ i = omega arith in subst (λ (j : ℕ). IsTableOf h j (get_or ts i empty_table)) e
-      (for_each (IsTableOf h) empty_table 0 (length h.nodes) ts q.lawful i lt);
-  few = omega (arith, q.room);
+nodes_to h ts fit = record {
+  count = for_count (IsTableOf h) empty_table 0 (length h.nodes) ts fit.lawful;
+  each = λ i lt. let same : 0 + i ≡ i = omega arith in subst (λ (j : ℕ). IsTableOf h j (get_or ts i empty_table)) same
+      (for_each (IsTableOf h) empty_table 0 (length h.nodes) ts fit.lawful i lt);
+  few = omega (arith, fit.room);
 }
 
 -- tables of the head are a table for each node, in order
 nodes_from : (h : Head) (ts : List NodeTable) → AreTablesOf h ts → FitNodes h (numbers_from 0 (length h.nodes)) 0 ts
-nodes_from h ts q = record {
-  lawful = for_from (IsTableOf h) empty_table 0 (length h.nodes) ts q.count
-      (λ i lt. let e : i ≡ 0 + i = omega arith in
-      subst (λ (j : ℕ). IsTableOf h j (get_or ts i empty_table)) e (q.each i lt));
-  room = omega (arith, q.few);
+nodes_from h ts tables = record {
+  lawful = for_from (IsTableOf h) empty_table 0 (length h.nodes) ts tables.count
+      (λ i lt. let same : i ≡ 0 + i = omega arith in
+      subst (λ (j : ℕ). IsTableOf h j (get_or ts i empty_table)) same (tables.each i lt));
+  room = omega (arith, tables.few);
 }
 
 -- the reader of a pack reads exactly the spellings of lawful tables: the head, then the nodes under it
@@ -361,38 +363,40 @@ tables_reads =
 
 -- rows that the grammar reads for the items of a node are the lawful rows of the node, as `rows_reads` says of what it
 -- takes
-pub rows_are_of : (h : Head) (a : ℕ) (s : VariableSpace) (items : List ℕ) (columns_read : ℕ) (bytes : List ℕ) (rs : List Row)
-    (rest : List ℕ) → IsSpace s → columns_read ≤ most →
+pub rows_are_of : (h : Head) (a : ℕ) (s : VariableSpace) (items : List ℕ) (columns_read : ℕ) (bytes : List ℕ)
+    (rs : List Row) (rest : List ℕ) → IsSpace s → columns_read ≤ most →
     s ≡ space_of h →
     items ≡ items_of_node h a → read_rows s items columns_read bytes ≡ Ok (rs, rest) → AreRowsOf h a rs
-rows_are_of h a s items columns_read bytes rs rest i le f g e =
-    let k = (rows_reads s items columns_read i le).takes bytes rs rest e in
+rows_are_of h a s items columns_read bytes rs rest is_space le space_is items_are read_as =
+    let taken = (rows_reads s items columns_read is_space le).takes bytes rs rest read_as in
     record {
-      items = k.0.items_are ∙ g;
+      items = taken.0.items_are ∙ items_are;
       lawful =
-          subst (λ (t : VariableSpace). All (IsLawfulRow t) rs) f (All-from_recursion (IsLawfulRow s) rs k.0.lawful);
+          subst (λ (t : VariableSpace). All (IsLawfulRow t) rs) space_is
+          (All-from_recursion (IsLawfulRow s) rs taken.0.lawful);
     }
 
 -- a node's table is the one that its rows make, with rows that are equal to its own
 pub table_is : (h : Head) (a : ℕ) (t : NodeTable) (rs : List Row) → IsTableOf h a t → rows_of t ≡ rs →
     table_from h a rs ≡ t
-table_is h a t rs q e = ap (table_from h a) (sym e) ∙ sym (table_again h a t q)
+table_is h a t rs lawful rows_are = ap (table_from h a) (sym rows_are) ∙ sym (table_again h a t lawful)
 
 -- tables that the grammar reads under a head are lawful tables of its nodes
 pub tables_are_of : (h : Head) (s : VariableSpace) (bytes : List ℕ) (ts : List NodeTable) (rest : List ℕ) → IsSpace s →
     s ≡ space_of h → read_nodes h bytes ≡ Ok (ts, rest) →
     AreTablesOf h ts
-tables_are_of h s bytes ts rest i e r = nodes_to h ts ((nodes_reads h (subst IsSpace e i)).takes bytes ts rest r).0
+tables_are_of h s bytes ts rest is_space space_is read_as =
+    nodes_to h ts ((nodes_reads h (subst IsSpace space_is is_space)).takes bytes ts rest read_as).0
 
 -- the numbers from i up to, but without, n begin with i
 pub numbers_more : (i n : ℕ) → i < n → numbers_from i (n - i) ≡ i ∷ numbers_from (i + 1) (n - (i + 1))
 unfolding numbers_from
 numbers_more i n lt =
-    let k : n - i ≡ suc (n - (i + 1)) = omega arith in
-    let m : suc i ≡ i + 1 = omega arith in
-    ap (numbers_from i) k ∙ ap (λ (j : ℕ). i ∷ numbers_from j (n - (i + 1))) m
+    let one_more : n - i ≡ suc (n - (i + 1)) = omega arith in
+    let next : suc i ≡ i + 1 = omega arith in
+    ap (numbers_from i) one_more ∙ ap (λ (j : ℕ). i ∷ numbers_from j (n - (i + 1))) next
 
 -- from n on there are none
 pub numbers_none : (i n : ℕ) → n ≤ i → numbers_from i (n - i) ≡ []
 unfolding numbers_from
-numbers_none i n le = let k : n - i ≡ 0 = omega arith in ap (numbers_from i) k
+numbers_none i n le = let none_left : n - i ≡ 0 = omega arith in ap (numbers_from i) none_left

@@ -14,6 +14,6 @@ pub row_taken : (s : VariableSpace) (item columns_read : ℕ) (r : Row) (bytes r
     columns_read + length r.columns ≤ most →
     bytes ≡ row_bytes r ++ rest
     → read_row s item columns_read bytes ≡ Ok (r, rest)
-row_taken s item columns_read r bytes rest i le same lawful few e =
+row_taken s item columns_read r bytes rest is_space le same lawful few e =
     ap (read_row s item columns_read) e
-    ∙ (row_reads s item columns_read i le).again r rest (record { item_is = same; lawful = lawful; room = few })
+    ∙ (row_reads s item columns_read is_space le).again r rest (record { item_is = same; lawful = lawful; room = few })

@@ -18,7 +18,8 @@ abbrev pub Gives : {X Y : Type 0} → (X → Y) → Result X ReadError → Resul
 Gives view (Ok x) read = read ≡ Ok (view x)
 Gives view (Err e) read = Fails e read
 
--- a reader of a whole pack gives the tables of the grammar or its place of the bad byte, unless memory runs out
+-- a reader of a whole pack gives the tables that the grammar gives, or the same place of the first bad byte, unless
+-- memory runs out
 abbrev pub Answers : Result Tables PackFault → Result Tables ℕ → Type 0
 Answers (Ok t) read = read ≡ Ok t
 Answers (Err (faults.BadPack n)) read = read ≡ Err n

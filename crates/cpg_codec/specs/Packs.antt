@@ -22,8 +22,9 @@ BeginsPack front = (t : Tables) × (rest : List ℕ) × AreLawful t × (spelling
 
 -- the bytes are no pack, and the first n of them are the longest prefix with which some pack begins
 pub record IsBadPack (bytes : List ℕ) (n : ℕ) : Type 0 where
+  -- n is a place in the bytes, or their end
   pub place : n ≤ length bytes
-  -- a pack may have these n bytes, but not one byte more of the input
+  -- some pack begins with these n bytes, but none with one byte more of the input
   pub goes_on : BeginsPack (take n bytes)
   pub no_further : n < length bytes → BeginsPack (take (n + 1) bytes) → ⊥
   -- no longer prefix begins a pack, and the whole is no pack

@@ -3,7 +3,7 @@
 use Rattle.std.specs.Prelude.{◌≡◌, ◌<◌, ℕ, List, ◌++◌, Result, Ok, Err}
 use Rattle.cpg_io.specs.Sink.{Took, TookPrefix}
 
--- of the held bytes and the piece after them the sink has taken a first part, `written`, and the buffer holds the others
+-- of the held bytes and the piece after them the sink has taken a first part, `written`, and the buffer holds the rest
 pub record IsPut (before after held left piece : List ℕ) : Type 0 where
   pub written : List ℕ
   -- the sink, which had taken `before`, has taken `after` by now

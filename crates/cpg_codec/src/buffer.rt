@@ -203,8 +203,8 @@ impl Buffer {
         }
     }
 
-    /// Writes all that is held to the sink, and empties the buffer; on `Err` the sink met a fault, and has a proper prefix
-    /// of it.
+    /// Writes all that is held to the sink, and empties the buffer. On `Err` the sink met a fault, and took a proper
+    /// prefix of what was held.
     pub fn write<O: Sink>(&mut self, sink: &mut O) -> Result<(), Failed>
         ensures whole { OnOk result (Took (O.state sink.old).taken (O.state sink.new).taken self.old) }
         ensures part { OnErr result (TookPrefix (O.state sink.old).taken (O.state sink.new).taken self.old) }

@@ -9,8 +9,8 @@ use crate::space::{is_range, is_variable};
 use cpg_cube::Literal;
 use cpg_table::VariableSpace;
 
-/// Returns whether a literal's range, on a fault count, has some of the numbers from 0 to the most faults, but not all. The
-/// variable isn't looked at.
+/// Returns whether a literal's range, as that of a fault count, has some of the numbers from 0 to the most faults, but
+/// not all; `true` guarantees it. The variable isn't looked at.
 fn is_part(space: &VariableSpace, literal: Literal) -> bool
     ensures { IsTrue result → literal.variable < space.now.processes → IsCountLiteral space.now literal }
 {
@@ -32,7 +32,8 @@ fn are_parts(space: &VariableSpace, literals: &[Literal]) -> bool
     all_parts
 }
 
-/// Returns whether the last variable is below `end`, and so, as variables rise, all are; true without literals.
+/// Returns whether the last variable is below `end`, and so, as variables rise, all are; `true` guarantees it, and is
+/// the answer without literals.
 fn are_below(literals: &[Literal], end: u32) -> bool
     requires { IsRising literals.now }
     ensures { OnTrue result (All (λ l. l.variable < end) literals.now) }
@@ -54,7 +55,8 @@ fn are_counts(space: &VariableSpace, literals: &[Literal]) -> bool
     are_parts(space, literals)
 }
 
-/// Returns whether a literal is on a variable of the space, and its range is one that literals on it may have.
+/// Returns whether a literal is on a variable of the space, and its range is one that literals on it may have; `true`
+/// guarantees it.
 fn is_lawful(space: &VariableSpace, literal: Literal) -> bool
     requires { IsSpace space.now }
     ensures { IsTrue result → IsLawfulLiteral space.now literal }
@@ -62,7 +64,7 @@ fn is_lawful(space: &VariableSpace, literal: Literal) -> bool
     is_variable(space, literal.variable as u32) && is_range(space, literal)
 }
 
-/// Returns whether each literal is lawful, looking at one after another.
+/// Returns whether each literal is lawful, looking at one after another; `true` guarantees it.
 fn is_each_lawful(space: &VariableSpace, literals: &[Literal]) -> bool
     requires { IsSpace space.now }
     ensures { OnTrue result (All (IsLawfulLiteral space.now) literals.now) }

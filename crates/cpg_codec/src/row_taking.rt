@@ -164,7 +164,7 @@ fn are_spelled<const N: usize, const M: usize>(literals: &[Literal; N], bytes: &
 }
 
 /// Returns how many literals `bytes` and the list begin with in common, counted in blocks of eight and at most `most`, and
-/// the bytes after these.
+/// the bytes after these. The contract says only that so many are in common, not that no more are.
 fn skip_eights<'a>(literals: &[Literal], bytes: &'a [u8], most: usize) -> (usize, &'a [u8])
     ensures { HasFront literals.now bytes.now most result.0 result.1.now }
 {
@@ -226,8 +226,9 @@ fn skip_each<'a>(literals: &[Literal], bytes: &'a [u8], most: usize) -> (usize, 
     (most.min(literals.len()), rest)
 }
 
-/// Returns how many literals `bytes` and the list begin with in common, at most `most`, and the bytes after these. Columns
-/// that are neighbours mostly differ in the last literals alone, so it compares many at once.
+/// Returns how many literals `bytes` and the list begin with in common, at most `most`, and the bytes after these; the
+/// contract says only that so many are. Columns that are neighbours mostly differ in the last literals alone, so it
+/// compares many at once.
 fn skip_same<'a>(literals: &[Literal], bytes: &'a [u8], most: usize) -> (usize, &'a [u8])
     ensures { HasFront literals.now bytes.now most result.0 result.1.now }
 {

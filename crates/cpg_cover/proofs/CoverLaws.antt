@@ -27,10 +27,12 @@ use Rattle.cpg_cover.proofs.Kept.{taken_out}
 -- if `other` has the literals of `one` in another order, both match the same scenarios
 pub matches_permutation : (one other : List Literal) (s : Scenario) → IsPermutation one other →
     matches one s ≡ matches other s
-matches_permutation one other s p = same_truth (matches one s) (matches other s)
-    (λ t. all_from (holds s) other
-    (λ l c. from_all (holds s) one l t (Contains-permutation other one l (IsPermutation-sym one other p) c)))
-    (λ t. all_from (holds s) one (λ l c. from_all (holds s) other l t (Contains-permutation one other l p c)))
+matches_permutation one other s permuted = same_truth (matches one s) (matches other s)
+    (λ matched. all_from (holds s) other
+    (λ l member. from_all (holds s) one l matched
+    (Contains-permutation other one l (IsPermutation-sym one other permuted) member)))
+    (λ matched. all_from (holds s) one
+    (λ l member. from_all (holds s) other l matched (Contains-permutation one other l permuted member)))
 
 -- given: a graph, and an order of its processes
 module _ (g : Graph) (order : List ℕ) where
@@ -39,30 +41,30 @@ module _ (g : Graph) (order : List ℕ) where
   earlier_none None = refl
   earlier_none (Some s) = refl
 
-  -- an answer that is a scenario is the least that is left
+  -- the first scenario that passes a test, if there is one, is the least that passes
   pub least_if_some : (test : Scenario → Bool) (o : Option Scenario) → IsFirst g order test o →
       IfSome o (IsLeast g order (λ s. IsTrue (test s)))
-  least_if_some test None f = tt
-  least_if_some test (Some s) f = f
+  least_if_some test None is_first = tt
+  least_if_some test (Some s) is_first = is_first
 
-  -- What the others leave of the cube outside one cube of the list is what the whole list leaves. Some literals stand for that
-  -- one: in each scenario that the cube matches, they match exactly if it does.
+  -- What the others leave of the cube outside one cube of the list is what the whole list leaves. Some literals stand
+  -- for that one: in each scenario that the cube matches, they match exactly if it does.
   pub left_by_taken : {X : Type 0} (seen : X → List Literal) (xs : List X) (i : ℕ) (d : X)
       (literals cube : List Literal) (o : Option Scenario) → i < length xs
       → ((s : Scenario) → IsScenario g s → matches cube s ≡ true →
       matches literals s ≡ matches (seen (get_or xs i d)) s)
       → IsFirst g order (λ s. is_left (map seen (remove xs i)) cube s && not (matches literals s)) o →
       IsFirst g order (is_left (map seen xs) cube) o
-  left_by_taken seen xs i d literals cube o h same f = first_same g order
+  left_by_taken seen xs i d literals cube o inside same is_first = first_same g order
       (λ s. is_left (map seen (remove xs i)) cube s && not (matches literals s)) (is_left (map seen xs) cube) o
       (λ s lawful.
-      let all = any_map (λ b. matches b s) seen xs ∙ taken_out (λ x. matches (seen x) s) xs i d h in
+      let all = any_map (λ b. matches b s) seen xs ∙ taken_out (λ x. matches (seen x) s) xs i d inside in
       let rest = any_map (λ b. matches b s) seen (remove xs i) in
       ap (λ u. (matches cube s && not u) && not (matches literals s)) rest
       ∙ none_of_either (matches cube s) (list_any (λ x. matches (seen x) s) (remove xs i)) (matches literals s)
       (matches (seen (get_or xs i d)) s) (same s lawful)
       ∙ sym (ap (λ u. matches cube s && not u) all))
-      f
+      is_first
     where
       -- two negations are the negation of either
       neither : (y z : Bool) → (not y && not z) ≡ not (z || y)
@@ -73,8 +75,8 @@ module _ (g : Graph) (order : List ℕ) where
 
       -- within the cube (x), what the literals match (z) is what the taken cube matches (w)
       none_of_either : (x y z w : Bool) → (x ≡ true → z ≡ w) → ((x && not y) && not z) ≡ (x && not (w || y))
-      none_of_either true y z w e = ap (λ u. not y && not u) (e refl) ∙ neither y w
-      none_of_either false y z w e = refl
+      none_of_either true y z w agree = ap (λ u. not y && not u) (agree refl) ∙ neither y w
+      none_of_either false y z w agree = refl
 
 -- given: a list of cubes; a scenario of a cube is left if no cube of the list matches it
 module _ (g : Graph) (few : process_count g ≤ 128) (order : List ℕ) (by : List (List Literal)) where
@@ -94,9 +96,9 @@ module _ (g : Graph) (few : process_count g ≤ 128) (order : List ℕ) (by : Li
           → IfNone (cond b (Some (let m : Literal = record { variable = l.variable; low = 0; high = l.low - 1 } in m))
           None) (o ≡ None) →
           IsFirst g order (λ s. is_below_range g few order by l s && is_left by cube s) o
-      by_case true t f n = left_below g few order by l cube o (ltb-true 0 l.low t) f
-      by_case false t f n = let h = ltb-false 0 l.low t in
-          subst (IsFirst g order (λ s. is_below_range g few order by l s && is_left by cube s)) (sym n)
+      by_case true test_is answer none_is = left_below g few order by l cube o (ltb-true 0 l.low test_is) answer
+      by_case false test_is answer none_is = let low_zero = ltb-false 0 l.low test_is in
+          subst (IsFirst g order (λ s. is_below_range g few order by l s && is_left by cube s)) (sym none_is)
           (none_below g few order by l cube (omega arith))
 
   -- an answer for the range above a literal is one for the scenarios left that have a higher number
@@ -117,10 +119,10 @@ module _ (g : Graph) (few : process_count g ≤ 128) (order : List ℕ) (by : Li
             high = top g.faults l.variable;
           } in m)) None) (o ≡ None) →
           IsFirst g order (λ s. is_above_range g few order by l s && is_left by cube s) o
-      by_case true t f n = left_above g few order by l cube o known f
-      by_case false t f n =
-          subst (IsFirst g order (λ s. is_above_range g few order by l s && is_left by cube s)) (sym n)
-          (none_above g few order by l cube known (ltb-false l.high (top g.faults l.variable) t))
+      by_case true test_is answer none_is = left_above g few order by l cube o known answer
+      by_case false test_is answer none_is =
+          subst (IsFirst g order (λ s. is_above_range g few order by l s && is_left by cube s)) (sym none_is)
+          (none_above g few order by l cube known (ltb-false l.high (top g.faults l.variable) test_is))
 
   -- ---- outside literals
 
@@ -128,71 +130,71 @@ module _ (g : Graph) (few : process_count g ≤ 128) (order : List ℕ) (by : Li
   pub outside_none : (cube : List Literal) → IsFirst g order (λ s. is_left by cube s && not (matches [] s)) None
   outside_none cube = λ s i. and_right (is_left by cube s) false refl
 
-  -- The first scenario left outside a cube is below the first literal, above it, or within it and outside the rest.
-  -- `x`, `y`, `z` are the answers for these three parts, and `gathered` shows that the parts are the whole.
+  -- The first scenario left outside a cube is below the first literal, above it, or within it and outside the rest:
+  -- `below`, `above` and `within` are the answers for these three parts, and `gathered` shows that they are the whole.
   pub outside_one : (l : Literal) (ls cube : List Literal) (below above within : Option Scenario)
       → IsFirst g order (λ s. is_below_range g few order by l s && is_left by cube s) below
       → IsFirst g order (λ s. is_above_range g few order by l s && is_left by cube s) above
       → IsFirst g order (λ s. is_left by (narrowed_by l cube) s && not (matches ls s)) within
       → IsFirst g order (λ s. is_left by cube s && not (matches (l ∷ ls) s))
       (earlier g order (earlier g order below above) within)
-  outside_one l ls cube below above within x y z = first_same g order
+  outside_one l ls cube below above within below_is above_is within_is = first_same g order
       (λ s. ((is_below_range g few order by l s && is_left by cube s)
       || (is_above_range g few order by l s && is_left by cube s))
       || (is_left by (narrowed_by l cube) s && not (matches ls s)))
       (λ s. is_left by cube s && not (matches (l ∷ ls) s))
       (earlier g order (earlier g order below above) within)
-      (λ s i. ap (λ m. ((is_below_range g few order by l s && is_left by cube s)
+      (λ s lawful. ap (λ m. ((is_below_range g few order by l s && is_left by cube s)
       || (is_above_range g few order by l s && is_left by cube s)) ||
       ((m && not (list_any (λ b. matches b s) by)) && not (matches ls s))) (matches-narrowed s l cube)
       ∙ gathered (is_below_range g few order by l s) (is_above_range g few order by l s) (holds s l) (matches cube s)
-      (not (list_any (λ b. matches b s) by)) (matches ls s) (in_range g few s i l))
+      (not (list_any (λ b. matches b s) by)) (matches ls s) (in_range g few s lawful l))
       (first_or g order (λ s. (is_below_range g few order by l s && is_left by cube s)
       || (is_above_range g few order by l s && is_left by cube s))
       (λ s. is_left by (narrowed_by l cube) s && not (matches ls s)) (earlier g order below above) within
       (first_or g order (λ s. is_below_range g few order by l s && is_left by cube s)
-      (λ s. is_above_range g few order by l s && is_left by cube s) below above x y) z)
+      (λ s. is_above_range g few order by l s && is_left by cube s) below above below_is above_is) within_is)
     where
       -- A truth table: a below, b above, h within the literal's range (exactly if neither), m in the cube, u left by
       -- the list, r in the other literals.
       gathered : (a b h m u r : Bool) → not h ≡ (a || b) →
           (((a && (m && u)) || (b && (m && u))) || (((h && m) && u) && not r)) ≡ ((m && u) && not (h && r))
-      gathered true true true m u r e = cc
-      gathered true false true m u r e = cc
-      gathered false true true m u r e = cc
-      gathered false false true true true true e = refl
-      gathered false false true true true false e = refl
-      gathered false false true true false true e = refl
-      gathered false false true true false false e = refl
-      gathered false false true false true true e = refl
-      gathered false false true false true false e = refl
-      gathered false false true false false true e = refl
-      gathered false false true false false false e = refl
-      gathered true true false true true true e = refl
-      gathered true true false true true false e = refl
-      gathered true true false true false true e = refl
-      gathered true true false true false false e = refl
-      gathered true true false false true true e = refl
-      gathered true true false false true false e = refl
-      gathered true true false false false true e = refl
-      gathered true true false false false false e = refl
-      gathered true false false true true true e = refl
-      gathered true false false true true false e = refl
-      gathered true false false true false true e = refl
-      gathered true false false true false false e = refl
-      gathered true false false false true true e = refl
-      gathered true false false false true false e = refl
-      gathered true false false false false true e = refl
-      gathered true false false false false false e = refl
-      gathered false true false true true true e = refl
-      gathered false true false true true false e = refl
-      gathered false true false true false true e = refl
-      gathered false true false true false false e = refl
-      gathered false true false false true true e = refl
-      gathered false true false false true false e = refl
-      gathered false true false false false true e = refl
-      gathered false true false false false false e = refl
-      gathered false false false m u r e = cc
+      gathered true true true m u r split = cc
+      gathered true false true m u r split = cc
+      gathered false true true m u r split = cc
+      gathered false false true true true true split = refl
+      gathered false false true true true false split = refl
+      gathered false false true true false true split = refl
+      gathered false false true true false false split = refl
+      gathered false false true false true true split = refl
+      gathered false false true false true false split = refl
+      gathered false false true false false true split = refl
+      gathered false false true false false false split = refl
+      gathered true true false true true true split = refl
+      gathered true true false true true false split = refl
+      gathered true true false true false true split = refl
+      gathered true true false true false false split = refl
+      gathered true true false false true true split = refl
+      gathered true true false false true false split = refl
+      gathered true true false false false true split = refl
+      gathered true true false false false false split = refl
+      gathered true false false true true true split = refl
+      gathered true false false true true false split = refl
+      gathered true false false true false true split = refl
+      gathered true false false true false false split = refl
+      gathered true false false false true true split = refl
+      gathered true false false false true false split = refl
+      gathered true false false false false true split = refl
+      gathered true false false false false false split = refl
+      gathered false true false true true true split = refl
+      gathered false true false true true false split = refl
+      gathered false true false true false true split = refl
+      gathered false true false true false false split = refl
+      gathered false true false false true true split = refl
+      gathered false true false false true false split = refl
+      gathered false true false false false true split = refl
+      gathered false true false false false false split = refl
+      gathered false false false m u r split = cc
 
 -- ---- a cube narrowed by a literal
 
@@ -200,13 +202,14 @@ module _ (g : Graph) (few : process_count g ≤ 128) (order : List ℕ) (by : Li
 module _ (g : Graph) (order : List ℕ) (by : List (List Literal)) (l : Literal) (cube : List Literal) where
   -- if the literal leaves no number, nothing is left
   pub part_none : with_literal l cube ≡ None → IsFirst g order (is_left by (narrowed_by l cube)) None
-  part_none e = λ s i. and_left (matches (narrowed_by l cube) s) (not (list_any (λ b. matches b s) by))
-      (matches-narrowed s l cube ∙ with-none s l cube e)
+  part_none none_left = λ s lawful. and_left (matches (narrowed_by l cube) s) (not (list_any (λ b. matches b s) by))
+      (matches-narrowed s l cube ∙ with-none s l cube none_left)
 
   -- if the literal leaves the cube no number, nothing is left within it
   pub within_none : (ls : List Literal) → with_literal l cube ≡ None →
       IsFirst g order (λ s. is_left by (narrowed_by l cube) s && not (matches ls s)) None
-  within_none ls e = λ s i. and_left (is_left by (narrowed_by l cube) s) (not (matches ls s)) (part_none e s i)
+  within_none ls none_left =
+      λ s lawful. and_left (is_left by (narrowed_by l cube) s) (not (matches ls s)) (part_none none_left s lawful)
 
   -- given: the cube narrowed by the literal, and a list of cubes that leaves the same of it
   module _ (c : List Literal) (some : with_literal l cube ≡ Some c) (kept : List (List Literal))
@@ -215,6 +218,7 @@ module _ (g : Graph) (order : List ℕ) (by : List (List Literal)) (l : Literal)
     pub within_kept : (ls : List Literal) (o : Option Scenario) →
         IsFirst g order (λ s. is_left kept c s && not (matches ls s)) o →
         IsFirst g order (λ s. is_left by (narrowed_by l cube) s && not (matches ls s)) o
-    within_kept ls o f = first_same g order (λ s. is_left kept c s && not (matches ls s))
+    within_kept ls o is_first = first_same g order (λ s. is_left kept c s && not (matches ls s))
         (λ s. is_left by (narrowed_by l cube) s && not (matches ls s)) o
-        (λ s i. ap (λ b. b && not (matches ls s)) (same s i ∙ ap (λ d. is_left by d s) (sym (with-is l cube c some)))) f
+        (λ s lawful. ap (λ b. b && not (matches ls s))
+        (same s lawful ∙ ap (λ d. is_left by d s) (sym (with-is l cube c some)))) is_first

@@ -34,32 +34,33 @@ any_of_one false c s = refl
 
 -- the one element of a list has its fact
 only : {X : Type 0} (P : X → Type 0) (x y : X) → Contains (x ∷ []) y → P x → P y
-only P x y c h =
-    ⊎_elim (λ (e : x ≡ y). subst P e h) (λ (d : Contains [] y). absurd (Contains-nil y d)) (Contains-cases x [] y c)
+only P x y member holds =
+    ⊎_elim (λ (same : x ≡ y). subst P same holds) (λ (in_none : Contains [] y). absurd (Contains-nil y in_none))
+    (Contains-cases x [] y member)
 
 -- part of a range and the rest of the cube together are the narrowed cube
 together : (p h n m : Bool) → (p ≡ true → h ≡ true → n ≡ true) → (n ≡ true → (p ≡ true) × (h ≡ true)) →
     (p && (h && m)) ≡ (n && m)
-together true true true m f k = refl
-together true true false m f k = cc (f refl refl)
-together true false true m f k = cc (k refl).1
-together true false false m f k = refl
-together false h true m f k = cc (k refl).0
-together false h false m f k = refl
+together true true true m both_give gives_both = refl
+together true true false m both_give gives_both = cc (both_give refl refl)
+together true false true m both_give gives_both = cc (gives_both refl).1
+together true false false m both_give gives_both = refl
+together false h true m both_give gives_both = cc (gives_both refl).0
+together false h false m both_give gives_both = refl
 
--- A truth table: a below the range, b above it, h in it (exactly if neither), m the cube matches, r the other literals do. The
--- cube matches below, above, or in the range outside the rest exactly if it matches and not all literals do.
+-- A truth table: a below the range, b above it, h in it (exactly if neither), m the cube matches, r the other literals
+-- do. The cube matches below, above, or in the range outside the rest exactly if it matches and not all literals do.
 joined : (a b h m r : Bool) → not h ≡ (a || b) → (((a && m) || (b && m)) || ((h && m) && not r)) ≡ (m && not (h && r))
-joined true b true m r e = cc
-joined false true true m r e = cc
-joined false false true true r e = refl
-joined false false true false r e = refl
-joined true b false true r e = refl
-joined true true false false r e = refl
-joined true false false false r e = refl
-joined false true false true r e = refl
-joined false true false false r e = refl
-joined false false false m r e = cc
+joined true b true m r split = cc
+joined false true true m r split = cc
+joined false false true true r split = refl
+joined false false true false r split = refl
+joined true b false true r split = refl
+joined true true false false r split = refl
+joined true false false false r split = refl
+joined false true false true r split = refl
+joined false true false false r split = refl
+joined false false false m r split = cc
 
 -- given: a graph of at most 128 processes, and a scenario of it
 module _ (g : Graph) (few : process_count g ≤ 128) (s : Scenario) (lawful : IsScenario g s) where
@@ -67,14 +68,15 @@ module _ (g : Graph) (few : process_count g ≤ 128) (s : Scenario) (lawful : Is
   matches_below : (l : Literal) (cube : List Literal) →
       list_any (λ c. matches c s) (part_below l cube) ≡ (nat_lt (number_of s l.variable) l.low && matches cube s)
   matches_below l cube =
-      let m : Literal = record { variable = l.variable; low = 0; high = l.low - 1 } in
-      any_of_one (nat_lt 0 l.low) (narrowed_by m cube) s
-      ∙ ap (λ b. nat_lt 0 l.low && b) (matches-narrowed s m cube)
-      ∙ together (nat_lt 0 l.low) (holds s m) (nat_lt (number_of s l.variable) l.low) (matches cube s)
-      (λ a b.
-      lt-ltb (number_of s l.variable) l.low (let x = ltb-true 0 l.low a in let y = holds-high s m b in omega arith))
-      (λ t. let h = ltb-true (number_of s l.variable) l.low t in
-      (lt-ltb 0 l.low (omega arith), holds-from s m (omega arith) (omega arith)))
+      let part : Literal = record { variable = l.variable; low = 0; high = l.low - 1 } in
+      any_of_one (nat_lt 0 l.low) (narrowed_by part cube) s
+      ∙ ap (λ b. nat_lt 0 l.low && b) (matches-narrowed s part cube)
+      ∙ together (nat_lt 0 l.low) (holds s part) (nat_lt (number_of s l.variable) l.low) (matches cube s)
+      (λ low_above_0 in_part.
+      lt-ltb (number_of s l.variable) l.low
+      (let above_0 = ltb-true 0 l.low low_above_0 in let below_high = holds-high s part in_part in omega arith))
+      (λ below. let number_below = ltb-true (number_of s l.variable) l.low below in
+      (lt-ltb 0 l.low (omega arith), holds-from s part (omega arith) (omega arith)))
 
   -- the part above matches if the cube does and the number is above the literal's high
   matches_above : (l : Literal) (cube : List Literal) → IsVariable g l.variable →
@@ -82,29 +84,30 @@ module _ (g : Graph) (few : process_count g ≤ 128) (s : Scenario) (lawful : Is
       ≡ (nat_lt l.high (number_of s l.variable) && matches cube s)
   -- a number above the high is in the range from the next one to the top, and the other way round
   matches_above l cube known =
-      let m : Literal = record { variable = l.variable; low = l.high + 1; high = top g.faults l.variable } in
-      let w = number_within g few s lawful l.variable known in
-      any_of_one (nat_lt l.high (top g.faults l.variable)) (narrowed_by m cube) s
-      ∙ ap (λ b. nat_lt l.high (top g.faults l.variable) && b) (matches-narrowed s m cube)
-      ∙ together (nat_lt l.high (top g.faults l.variable)) (holds s m) (nat_lt l.high (number_of s l.variable))
+      let part : Literal = record { variable = l.variable; low = l.high + 1; high = top g.faults l.variable } in
+      let below_top = number_within g few s lawful l.variable known in
+      any_of_one (nat_lt l.high (top g.faults l.variable)) (narrowed_by part cube) s
+      ∙ ap (λ b. nat_lt l.high (top g.faults l.variable) && b) (matches-narrowed s part cube)
+      ∙ together (nat_lt l.high (top g.faults l.variable)) (holds s part) (nat_lt l.high (number_of s l.variable))
       (matches cube s)
-      (λ a b. lt-ltb l.high (number_of s l.variable) (let y = holds-low s m b in omega arith))
-      (λ t. let h = ltb-true l.high (number_of s l.variable) t in
-      (lt-ltb l.high (top g.faults l.variable) (omega arith), holds-from s m (omega arith) (omega arith)))
+      (λ high_below in_part. lt-ltb l.high (number_of s l.variable)
+      (let above_low = holds-low s part in_part in omega arith))
+      (λ above. let number_above = ltb-true l.high (number_of s l.variable) above in
+      (lt-ltb l.high (top g.faults l.variable) (omega arith), holds-from s part (omega arith) (omega arith)))
 
   -- a number is in the range, below it or above it
   pub in_range : (l : Literal) →
       not (holds s l) ≡ (nat_lt (number_of s l.variable) l.low || nat_lt l.high (number_of s l.variable))
   in_range l = ⊎_elim
       -- below the range
-      (λ (a : number_of s l.variable < l.low).
-      outside (λ h. let b = holds-low s l h in omega arith) (or_left _ _ (lt-ltb _ _ a)))
+      (λ (below : number_of s l.variable < l.low).
+      outside (λ held. let above_low = holds-low s l held in omega arith) (or_left _ _ (lt-ltb _ _ below)))
       -- above it, or in it
-      (λ (a : l.low ≤ number_of s l.variable). ⊎_elim
-      (λ (b : l.high < number_of s l.variable).
-      outside (λ h. let c = holds-high s l h in omega arith) (or_right _ _ (lt-ltb _ _ b)))
-      (λ (b : number_of s l.variable ≤ l.high). ap not (holds-from s l a b)
-      ∙ sym (or_from _ _ (le-ltb _ _ a) (le-ltb _ _ b)))
+      (λ (from_low : l.low ≤ number_of s l.variable). ⊎_elim
+      (λ (above : l.high < number_of s l.variable).
+      outside (λ held. let below_high = holds-high s l held in omega arith) (or_right _ _ (lt-ltb _ _ above)))
+      (λ (to_high : number_of s l.variable ≤ l.high). ap not (holds-from s l from_low to_high)
+      ∙ sym (or_from _ _ (le-ltb _ _ from_low) (le-ltb _ _ to_high)))
       (cases_lt l.high (number_of s l.variable)))
       (cases_lt (number_of s l.variable) l.low)
     where
@@ -112,7 +115,7 @@ module _ (g : Graph) (few : process_count g ≤ 128) (s : Scenario) (lawful : Is
       outside : (holds s l ≡ true → ⊥) →
           (nat_lt (number_of s l.variable) l.low || nat_lt l.high (number_of s l.variable)) ≡ true →
           not (holds s l) ≡ (nat_lt (number_of s l.variable) l.low || nat_lt l.high (number_of s l.variable))
-      outside n e = ap not (false_from_ne_true (holds s l) n) ∙ sym e
+      outside fails one_side = ap not (false_from_ne_true (holds s l) fails) ∙ sym one_side
 
   -- some part matches exactly if the cube does and the other doesn't
   pub matches_parts : (ls cube : List Literal) → All (λ l. IsVariable g l.variable) ls →
@@ -120,12 +123,12 @@ module _ (g : Graph) (few : process_count g ≤ 128) (s : Scenario) (lawful : Is
   -- by induction on the literals
   matches_parts [] cube known = sym (and_right (matches cube s) false refl)
   matches_parts (l ∷ ls) cube known =
-      let k = All-head (λ m. IsVariable g m.variable) l ls known in
+      let known_l = All-head (λ m. IsVariable g m.variable) l ls known in
       list_any-append (λ c. matches c s) (part_below l cube ++ part_above g.faults l cube)
       (parts_outside g.faults ls (narrowed_by l cube))
       ∙ ap₂ ◌||◌
       (list_any-append (λ c. matches c s) (part_below l cube) (part_above g.faults l cube)
-      ∙ ap₂ ◌||◌ (matches_below l cube) (matches_above l cube k))
+      ∙ ap₂ ◌||◌ (matches_below l cube) (matches_above l cube known_l))
       (matches_parts ls (narrowed_by l cube) (All-tail (λ m. IsVariable g m.variable) l ls known)
       ∙ ap (λ b. b && not (matches ls s)) (matches-narrowed s l cube))
       ∙ joined (nat_lt (number_of s l.variable) l.low) (nat_lt l.high (number_of s l.variable)) (holds s l)
@@ -137,18 +140,19 @@ module _ (g : Graph) (few : process_count g ≤ 128) (s : Scenario) (lawful : Is
 module _ (g : Graph) (order : List ℕ) (by : List (List Literal)) (cube : List Literal) where
   -- nothing is left of a cube that matches nothing
   pub left_of_none : IsFirst g order (matches cube) None → IsFirst g order (is_left by cube) None
-  left_of_none none = λ s i. and_left (matches cube s) (not (list_any (λ b. matches b s) by)) (none s i)
+  left_of_none none = λ s lawful. and_left (matches cube s) (not (list_any (λ b. matches b s) by)) (none s lawful)
 
   -- the least scenario of a cube is the least that is left, if no cube of the list matches it
   pub left_at_once : (least : Scenario) → IsFirst g order (matches cube) (Some least) →
       list_any (λ b. matches b least) by ≡ false →
       IsFirst g order (is_left by cube) (Some least)
   -- each scenario that is left matches the cube, so it isn't before the least one
-  left_at_once least first e = record {
+  left_at_once least first unmatched = record {
     lawful = first.lawful;
     holds = and_from (matches cube least) (not (list_any (λ b. matches b least) by)) first.holds
-        (not_from_false (list_any (λ b. matches b least) by) e);
-    least = λ t i k. first.least t i (and_parts (matches cube t) (not (list_any (λ b. matches b t) by)) k).0;
+        (not_from_false (list_any (λ b. matches b least) by) unmatched);
+    least = λ t t_lawful left. first.least t t_lawful
+        (and_parts (matches cube t) (not (list_any (λ b. matches b t) by)) left).0;
   }
 
 -- given: a graph of at most 128 processes
@@ -156,57 +160,59 @@ module _ (g : Graph) (few : process_count g ≤ 128) where
   -- the part below a literal's range is a cube of the graph
   below_is : (l : Literal) (cube : List Literal) → IsVariable g l.variable → IsCube g cube → (c : List Literal) →
       Contains (part_below l cube) c → IsCube g c
-  below_is l cube known is c k = one (nat_lt 0 l.low) k
+  below_is l cube known is c member = one (nat_lt 0 l.low) member
     where
       -- the part below is there only if the low isn't 0
       one : (b : Bool) →
           Contains (cond b (narrowed_by (record { variable = l.variable; low = 0; high = l.low - 1 }) cube ∷ []) []) c →
           IsCube g c
-      one true h = only (IsCube g) (narrowed_by (record { variable = l.variable; low = 0; high = l.low - 1 }) cube) c h
+      one true in_part = only (IsCube g)
+          (narrowed_by (record { variable = l.variable; low = 0; high = l.low - 1 }) cube) c in_part
           (cube-narrowed g (record { variable = l.variable; low = 0; high = l.low - 1 }) cube known is)
-      one false h = absurd (Contains-nil c h)
+      one false in_part = absurd (Contains-nil c in_part)
 
   -- the part above a literal's range is a cube of the graph
   above_is : (l : Literal) (cube : List Literal) → IsVariable g l.variable → IsCube g cube → (c : List Literal) →
       Contains (part_above g.faults l cube) c → IsCube g c
-  above_is l cube known is c k = one (nat_lt l.high (top g.faults l.variable)) k
+  above_is l cube known is c member = one (nat_lt l.high (top g.faults l.variable)) member
     where
-      -- it is there only if the high isn't the top
+      -- the part above is there only if the high isn't the top
       one : (b : Bool) → Contains (cond b (narrowed_by
           (record { variable = l.variable; low = l.high + 1; high = top g.faults l.variable }) cube ∷ []) []) c →
           IsCube g c
-      one true h = only (IsCube g)
-          (narrowed_by (record { variable = l.variable; low = l.high + 1; high = top g.faults l.variable }) cube) c h
+      one true in_part = only (IsCube g)
+          (narrowed_by (record { variable = l.variable; low = l.high + 1; high = top g.faults l.variable }) cube) c
+          in_part
           (cube-narrowed g
           (record { variable = l.variable; low = l.high + 1; high = top g.faults l.variable }) cube known is)
-      one false h = absurd (Contains-nil c h)
+      one false in_part = absurd (Contains-nil c in_part)
 
   -- the parts of a cube outside another are cubes of the graph
   pub parts_are : (ls cube : List Literal) → All (λ l. IsVariable g l.variable) ls → IsCube g cube →
       (c : List Literal) → Contains (parts_outside g.faults ls cube) c → IsCube g c
   -- by induction on the literals
-  parts_are [] cube known is c k = absurd (Contains-nil c k)
-  parts_are (l ∷ ls) cube known is c k =
-      let h = All-head (λ m. IsVariable g m.variable) l ls known in
+  parts_are [] cube known is c member = absurd (Contains-nil c member)
+  parts_are (l ∷ ls) cube known is c member =
+      let known_l = All-head (λ m. IsVariable g m.variable) l ls known in
       ⊎_elim
       -- a part below or above the first literal's range
-      (λ (a : Contains (part_below l cube ++ part_above g.faults l cube) c).
-      ⊎_elim (below_is l cube h is c) (above_is l cube h is c)
-      (Contains-append_cases (part_below l cube) (part_above g.faults l cube) c a))
+      (λ (in_sides : Contains (part_below l cube ++ part_above g.faults l cube) c).
+      ⊎_elim (below_is l cube known_l is c) (above_is l cube known_l is c)
+      (Contains-append_cases (part_below l cube) (part_above g.faults l cube) c in_sides))
       -- a part for one of the other literals, of the cube narrowed by the first
-      (λ (a : Contains (parts_outside g.faults ls (narrowed_by l cube)) c). parts_are ls (narrowed_by l cube)
-      (All-tail (λ m. IsVariable g m.variable) l ls known) (cube-narrowed g l cube h is) c a)
+      (λ (in_others : Contains (parts_outside g.faults ls (narrowed_by l cube)) c). parts_are ls (narrowed_by l cube)
+      (All-tail (λ m. IsVariable g m.variable) l ls known) (cube-narrowed g l cube known_l is) c in_others)
       (Contains-append_cases (part_below l cube ++ part_above g.faults l cube)
-      (parts_outside g.faults ls (narrowed_by l cube)) c k)
+      (parts_outside g.faults ls (narrowed_by l cube)) c member)
 
   -- b and the cubes bs leave a scenario of the cube exactly if bs leaves it of some part of the cube outside b
   pub left_in_parts : (b : List Literal) (bs : List (List Literal)) (cube : List Literal) (s : Scenario) →
       IsScenario g s →
       All (λ l. IsVariable g l.variable) b →
       list_any (λ c. is_left bs c s) (parts_outside g.faults b cube) ≡ is_left (b ∷ bs) cube s
-  left_in_parts b bs cube s i known =
+  left_in_parts b bs cube s lawful known =
       both_any (not (list_any (λ d. matches d s) bs)) (parts_outside g.faults b cube)
-      ∙ ap (λ x. x && not (list_any (λ d. matches d s) bs)) (matches_parts g few s i b cube known)
+      ∙ ap (λ x. x && not (list_any (λ d. matches d s) bs)) (matches_parts g few s lawful b cube known)
       ∙ none_of_either (matches cube s) (matches b s) (list_any (λ d. matches d s) bs)
     where
       -- a test that doesn't depend on the part may stand outside
@@ -238,11 +244,11 @@ module _ (g : Graph) (few : process_count g ≤ 128) where
         All (λ l. IsVariable g l.variable) b
         → ((c : List Literal) → Contains (parts_outside g.faults b cube) c → IsFirst g order (is_left bs c) (answer c))
         → IsFirst g order (is_left (b ∷ bs) cube) (first_of g order answer (parts_outside g.faults b cube))
-    left_by_parts b bs cube answer known h =
+    left_by_parts b bs cube answer known answers =
         first_same g order (λ s. list_any (λ c. is_left bs c s) (parts_outside g.faults b cube)) (is_left (b ∷ bs) cube)
         (first_of g order answer (parts_outside g.faults b cube))
-        (λ s i. left_in_parts b bs cube s i known)
-        (first_of_all g order (is_left bs) answer (parts_outside g.faults b cube) h)
+        (λ s lawful. left_in_parts b bs cube s lawful known)
+        (first_of_all g order (is_left bs) answer (parts_outside g.faults b cube) answers)
 
     -- ---- the whole search
 
@@ -250,9 +256,10 @@ module _ (g : Graph) (few : process_count g ≤ 128) where
     when_met : (by : List (List Literal)) (cube : List Literal) (o : Option Scenario) → IsCube g cube →
         (is_met g.faults cube ≡ true → IsFirst g order (is_left by cube) o) → (m : Bool) →
         is_met g.faults cube ≡ m → IsFirst g order (is_left by cube) (cond m o None)
-    when_met by cube o is f true e = f e
-    when_met by cube o is f false e = left_of_none g order by cube (λ s i.
-        false_from_ne_true (matches cube s) (λ t. both_ways (is_met g.faults cube) e (met_by g few cube is s i t)))
+    when_met by cube o is if_met true met = if_met met
+    when_met by cube o is if_met false unmet = left_of_none g order by cube (λ s lawful.
+        false_from_ne_true (matches cube s)
+        (λ matched. both_ways (is_met g.faults cube) unmet (met_by g few cube is s lawful matched)))
 
     -- the answer of the search is the first scenario that the cube matches and no cube of the list does
     pub uncovered_is : (by : List (List Literal)) (cube : List Literal) → All (All (λ l. IsVariable g l.variable)) by →
@@ -260,11 +267,12 @@ module _ (g : Graph) (few : process_count g ≤ 128) where
         IsFirst g order (is_left by cube) (uncovered g order by cube)
     -- by induction on the cubes
     uncovered_is [] cube known is = when_met [] cube (Some (lows g cube)) is
-        (λ e. left_at_once g order [] cube (lows g cube) (lows-least g few cube is e order) refl)
+        (λ met. left_at_once g order [] cube (lows g cube) (lows-least g few cube is met order) refl)
         (is_met g.faults cube) refl
     uncovered_is (b ∷ bs) cube known is =
         when_met (b ∷ bs) cube (first_of g order (uncovered g order bs) (parts_outside g.faults b cube)) is
-        (λ e. left_by_parts b bs cube (uncovered g order bs) (All-head (All (λ l. IsVariable g l.variable)) b bs known)
-        (λ c k. uncovered_is bs c (All-tail (All (λ l. IsVariable g l.variable)) b bs known)
-        (parts_are b cube (All-head (All (λ l. IsVariable g l.variable)) b bs known) is c k)))
+        (λ met. left_by_parts b bs cube (uncovered g order bs)
+        (All-head (All (λ l. IsVariable g l.variable)) b bs known)
+        (λ c member. uncovered_is bs c (All-tail (All (λ l. IsVariable g l.variable)) b bs known)
+        (parts_are b cube (All-head (All (λ l. IsVariable g l.variable)) b bs known) is c member)))
         (is_met g.faults cube) refl

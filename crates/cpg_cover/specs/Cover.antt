@@ -1,5 +1,5 @@
--- What a list of cubes leaves of a cube: the scenarios that the cube matches and none of the list does, and the least of
--- them. To find it, the cube is split by the literals of the list's cubes.
+-- What a list of cubes leaves of a cube: the scenarios that the cube matches and none of the list does, and the least
+-- of them. To find it, the cube is split by the literals of the list's cubes.
 use Rattle.std.specs.Prelude.{ℕ, ◌+◌, ◌-◌, Bool, not, ◌&&◌, nat_lt, if◌then◌else◌, List, [], ◌∷◌, ◌++◌, Option, None}
 use Rattle.std.specs.Prelude.{Some}
 use Rattle.std.specs.List.{list_any}
@@ -23,14 +23,14 @@ abbrev pub part_below : Literal → List Literal → List (List Literal)
 part_below l cube = if nat_lt 0 l.low
     then narrowed_by (record { variable = l.variable; low = 0; high = l.low - 1 }) cube ∷ [] else []
 
--- the part of a cube above a literal's range, as a list of one cube; empty if the range reaches the most that its variable
--- can be with k faults
+-- the part of a cube above a literal's range, as a list of one cube; empty if the range reaches the most that its
+-- variable can be with k faults
 abbrev pub part_above : ℕ → Literal → List Literal → List (List Literal)
 part_above k l cube = if nat_lt l.high (top k l.variable)
     then narrowed_by (record { variable = l.variable; low = l.high + 1; high = top k l.variable }) cube ∷ [] else []
 
--- The parts of a cube in which another cube's literals don't all hold: for each literal the parts below and above its range,
--- in which the literals before it do hold.
+-- The parts of a cube in which another cube's literals don't all hold: for each literal the parts below and above its
+-- range, in which the literals before it do hold.
 abbrev pub parts_outside : ℕ → List Literal → List Literal → List (List Literal)
 parts_outside k [] cube = []
 parts_outside k (l ∷ ls) cube = part_below l cube ++ part_above k l cube ++ parts_outside k ls (narrowed_by l cube)

@@ -1,4 +1,4 @@
--- How many faults scenarios have at least that no cube of a list matches. A scenario is given here as its numbers: a
+-- How many faults a scenario has at least if no cube of a list matches it. A scenario is given here as its numbers: a
 -- function from each variable to its number.
 use Rattle.std.specs.Prelude.{ℕ, ◌-◌, ◌≡◌, ◌≤◌, ◌<◌, Bool, true, false, ◌&&◌, ◌==◌, nat_le, if◌then◌else◌, List, All}
 use Rattle.std.specs.Prelude.{get_or, sum_by}
@@ -25,8 +25,8 @@ is_any_at n cubes = list_any (matches_at n) cubes
 abbrev pub AreValues : (ℕ → ℕ) → Type 0
 AreValues n = (v : ℕ) → 128 ≤ v → n v ≤ 1
 
--- All numbers n that the cube doesn't match have at least r faults. (The sum over the 128 counts has `count` for 128, since
--- the prover would otherwise unfold it.)
+-- All numbers n that the cube doesn't match have at least r faults. (The sum over the 128 counts has `count` for 128,
+-- since the prover would otherwise unfold it.)
 abbrev pub NeedsOutside : List Literal → ℕ → Type 0
 NeedsOutside cube r =
     (count : ℕ) → count ≡ 128 → (n : ℕ → ℕ) → matches_at n cube ≡ false → r ≤ sum_by n (numbers_below count)
@@ -36,8 +36,8 @@ abbrev pub Needs : List (List Literal) → ℕ → Type 0
 Needs cubes r = (count : ℕ) → count ≡ 128 → (n : ℕ → ℕ) → AreValues n → is_any_at n cubes ≡ false →
     r ≤ sum_by n (numbers_below count)
 
--- all numbers n that no cube of the list matches have at least r faults, if the variable is 0 in them and their faults are
--- within the budget
+-- all numbers n that no cube of the list matches have at least r faults, if the variable is 0 in them and their faults
+-- are within the budget
 abbrev pub NeedsWithout : List (List Literal) → ℕ → ℕ → ℕ → Type 0
 NeedsWithout cubes variable budget r = (count : ℕ) → count ≡ 128 → (n : ℕ → ℕ) → AreValues n → n variable ≡ 0 →
     sum_by n (numbers_below count) ≤ budget → is_any_at n cubes ≡ false → r ≤ sum_by n (numbers_below count)
@@ -46,14 +46,15 @@ NeedsWithout cubes variable budget r = (count : ℕ) → count ≡ 128 → (n : 
 abbrev pub after : ℕ → (ℕ → ℕ) → ℕ → ℕ
 after variable n v = if variable == v then n v - 1 else n v
 
--- What a search assumes of the numbers when it steps by a variable: with `more` false that it is 0, and with `more` true
--- that it is at least 1. In the second case the search goes on with one less of it (`after`).
+-- What a search assumes of the numbers when it steps by a variable: with `more` false that the variable's number is 0,
+-- and with `more` true that it is at least 1. In the second case the search goes on with one less of the number
+-- (`after`).
 pub record IsStep (variable : ℕ) (more : Bool) (budget : ℕ) (n : ℕ → ℕ) : Type 0 where
-  -- a value is 0 or 1
+  -- the number of a value is 0 or 1
   pub values : (v : ℕ) → 128 ≤ v → n v ≤ 1
-  -- the variable is 0 if `more` is false
+  -- the number of the variable is 0 if `more` is false
   pub zero : more ≡ false → n variable ≡ 0
-  -- it is at least 1 if `more` is true
+  -- the number of the variable is at least 1 if `more` is true
   pub some : more ≡ true → 1 ≤ n variable
   -- after the step no count is above the budget (if `more` is false, one less than 0 is 0)
   pub few : (v : ℕ) → v < 128 → after variable n v ≤ budget
@@ -82,8 +83,8 @@ pub record AreMore (cube : List Literal) (marks more : List Bool) : Type 0 where
 abbrev pub beyond : List ℕ → (ℕ → ℕ) → ℕ → ℕ
 beyond low s v = s v - get_or low v 0
 
--- the numbers are those of a scenario that the cube matches, as far as a search knows: the cube has these lows and highs, and
--- leaves `left` faults
+-- the numbers are those of a scenario that the cube matches, as far as a search knows: the cube has these lows and
+-- highs, and leaves `left` faults
 pub record IsOn (low high : List ℕ) (left : ℕ) (s : ℕ → ℕ) : Type 0 where
   -- no number is below its low
   pub lows : (v : ℕ) → get_or low v 0 ≤ s v

@@ -92,7 +92,8 @@ fn meeting<'a>(
     Ok(kept)
 }
 
-/// Returns those literals that may fail in some scenario that a cube matches. The others hold in each of these.
+/// Returns those of the literals that may fail in some scenario that the cube matches. The others hold in all of these
+/// scenarios.
 fn cutting(
     alloc: Global,
     problem: &Problem,
@@ -415,8 +416,9 @@ fn least_by_number(
     Ok(found)
 }
 
-/// Returns the least scenario that a list leaves of a cube; `None` if it leaves none. It splits the cube by the variables along
-/// the order, unless the cube is found to be covered: so mostly only cubes of which something is left are split.
+/// Returns the least scenario that a list (`by`) leaves of a cube; `None` if it leaves none. It splits the cube along the order by
+/// `variables`, those by which it isn't split yet, unless the cube is found to be covered, so most cubes that it splits are ones
+/// of which something is left. `memory` has what was found about lists of cubes before.
 #[cycle(along)]
 fn least_along(
     alloc: Global,

@@ -1,4 +1,4 @@
-//! Whether a list of cubes covers a cube, by how many faults scenarios have at least that the cube matches and none of the
+//! Whether a list of cubes covers a cube, by how many faults a scenario has at least if the cube matches it and none of the
 //! list does: if these are more than there may be, the cube is covered.
 ghost use Rattle.std.specs.Prelude.{◌≡◌, ◌≤◌, ◌-◌, ◌||◌, ◌∷◌, [], ℕ, IfOk, IfSome, false, get_or, true};
 ghost use Rattle.std.specs.Bool.{OnTrue};

@@ -1,4 +1,4 @@
-//! How many faults scenarios have at least that no cube of a list matches: a lower bound that a search finds. A scenario is
+//! How many faults a scenario has at least if no cube of a list matches it: a lower bound that a search finds. A scenario is
 //! taken to be any choice of numbers whose values are 0 or 1.
 ghost use Rattle.std.specs.Prelude.{◌≡◌, ◌≤◌, ◌<◌, ℕ, IfOk, false};
 ghost use Rattle.cpg_cover.specs.Fewest.{Needs, NeedsOutside, NeedsWithout, holds_at};
@@ -60,7 +60,7 @@ fn fewest_of_each(cubes: &[Cube]) -> u8
 }
 
 /// Returns a lower bound of the faults of scenarios that none of the cubes matches: the sum over some cubes that have no
-/// variable in common, taken as they come.
+/// variable in common, chosen in the order of the list.
 fn fewest_of_apart(cubes: &[Cube]) -> u8
     ensures { Needs cubes.now result }
 {
@@ -119,8 +119,8 @@ fn fewest_by_value(
     Ok(fewer.min(budget.saturating_add(1)))
 }
 
-/// Returns a lower bound for the cubes by the fault count of a process: the lesser of `without`, which is that if the process
-/// has no fault, and of one more than that after one fault is taken from it.
+/// Returns a lower bound for the cubes by the fault count of a process: the lesser of `without`, the bound if the process has
+/// no fault, and one more than the bound after one fault is taken from it.
 #[cycle(fewest)]
 fn fewest_with(
     alloc: Global,

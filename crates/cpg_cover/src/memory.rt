@@ -21,7 +21,7 @@ const FIRST_LOOKS: u64 = 1 << 22;
 /// How many cubes each later question may look at, at least.
 const LATER_LOOKS: u64 = 1 << 14;
 
-/// A fact: how many faults scenarios have at least that none of some cubes matches.
+/// A fact: how many faults a scenario has at least if none of some cubes matches it.
 #[derive(Drop)]
 pub(crate) struct Fact {
     /// The cubes.
@@ -131,7 +131,7 @@ fn bucket_of(cubes: &[Cube]) -> usize {
 }
 
 impl Fact {
-    /// Returns the fact that scenarios that none of the cubes matches have at least `fewest` faults. The one error is
+    /// Returns the fact that a scenario has at least `fewest` faults if none of the cubes matches it. The one error is
     /// `OutOfMemory`.
     pub(crate) fn new(
         alloc: Global,
@@ -221,7 +221,7 @@ impl Memory {
         self.looks_left = self.looks_left.saturating_sub(cubes as u64);
     }
 
-    /// Returns how many faults scenarios have at least that none of the cubes matches, if a fact is kept that settles a
+    /// Returns how many faults a scenario has at least if none of the cubes matches it, if a fact is kept that settles a
     /// question with this budget; `None` otherwise.
     pub(crate) fn recall(&self, cubes: &[Cube], budget: u8) -> Option<u8>
         ensures { IfSome result (Needs cubes.now) }

@@ -14,19 +14,20 @@ use Rattle.cpg_cube.proofs.Narrow.{narrowed-after}
 pub all_under : (ms : List Literal) (v : ℕ) (m : Literal) → IsRising ms → slice_get ms (length ms - 1) ≡ Some m →
     m.variable < v →
     All (λ l. l.variable < v) ms
--- the last literal is below v, as is given; the variable of each earlier one is below that of the last
--- a literal before the last one is on a lower variable than that; the last one itself is the other case
-all_under ms v m rising is h k d l =
-    let e : get_or ms (length ms - 1) d ≡ m = get_or_from_slice_get ms (length ms - 1) m d is in
-    let f : (get_or ms (length ms - 1) d).variable ≡ m.variable = ap (λ (x : Literal). x.variable) e in
+-- by whether the literal is the last one, which is below v, or an earlier one, whose variable is below that of the last
+all_under ms v m rising is below_v k d inside =
+    let last_is : get_or ms (length ms - 1) d ≡ m = get_or_from_slice_get ms (length ms - 1) m d is in
+    let variable_is : (get_or ms (length ms - 1) d).variable ≡ m.variable = ap (λ (x : Literal). x.variable) last_is in
     ⊎_elim
     -- before the last one: its variable is lower, since they rise
-    (λ (j : k < length ms - 1). let r = rising k (length ms - 1) d j (omega (arith, l)) in omega (arith, r, f, h))
-    -- it is the last one itself
-    (λ (j : length ms - 1 ≤ k). let same : length ms - 1 ≡ k = omega (arith, j, l) in
-    subst (λ i. (get_or ms i d).variable < v) same (omega (arith, f, h)))
+    (λ (earlier : k < length ms - 1). let lower = rising k (length ms - 1) d earlier (omega (arith, inside)) in
+    omega (arith, lower, variable_is, below_v))
+    -- the literal is the last one itself
+    (λ (is_last : length ms - 1 ≤ k). let same : length ms - 1 ≡ k = omega (arith, is_last, inside) in
+    subst (λ i. (get_or ms i d).variable < v) same (omega (arith, variable_is, below_v)))
     (cases_lt k (length ms - 1))
 
+-- given: a literal l
 module _ (l : Literal) where
   -- the first of the literals is on a variable below that of l
   first_under : (m : Literal) (ms : List Literal) → All (λ n. n.variable < l.variable) (m ∷ ms) →
@@ -36,7 +37,7 @@ module _ (l : Literal) where
   -- if all literals are on variables below that of l, so are all but the first
   rest_under : (m : Literal) (ms : List Literal) → All (λ n. n.variable < l.variable) (m ∷ ms) →
       All (λ n. n.variable < l.variable) ms
-  rest_under m ms all k d h = all (suc k) d (omega (arith, h))
+  rest_under m ms all k d inside = all (suc k) d (omega (arith, inside))
 
   -- a cube whose literals are all on lower variables leaves l its own range
   pub range_above : (ms : List Literal) → All (λ n. n.variable < l.variable) ms → range_left l ms ≡ l
@@ -44,7 +45,7 @@ module _ (l : Literal) where
   range_above [] all = refl
   range_above (m ∷ ms) all =
       cond-false (l.variable == m.variable) (meet_literal l m) (range_left l ms)
-      (ne_eqb l.variable m.variable (λ e. let h = first_under m ms all in omega (arith, e, h)))
+      (ne_eqb l.variable m.variable (λ equal. let lower = first_under m ms all in omega (arith, equal, lower)))
       ∙ range_above ms (rest_under m ms all)
 
   -- narrowing by a literal above all others puts it last

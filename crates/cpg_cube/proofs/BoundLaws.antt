@@ -32,12 +32,12 @@ pub low_of_some : (ls : List Literal) (v : ℕ) →
 low_of_some [] v = inl refl
 low_of_some (l ∷ ls) v = ⊎_elim
     -- the first literal is on v, and the low is its low
-    (λ (e : l.variable ≡ v). inr (l, Contains-first l ls, e, low_here l v ls e))
-    -- it isn't: the low is that of the rest, which is 0 or one of the rest's lows
-    (λ (n : l.variable ≡ v → ⊥). ⊎_elim
-    (λ (z : low_in ls v ≡ 0). inl (low_else l v ls n ∙ z))
-    (λ (r : (m : Literal) × Contains ls m × (m.variable ≡ v) × (low_in ls v ≡ m.low)).
-    inr (r.0, Contains-rest l ls r.0 r.1, r.2, low_else l v ls n ∙ r.3))
+    (λ (same : l.variable ≡ v). inr (l, Contains-first l ls, same, low_here l v ls same))
+    -- the first literal is on another variable: the low is that of the rest, which is 0 or one of the rest's lows
+    (λ (other : l.variable ≡ v → ⊥). ⊎_elim
+    (λ (is_zero : low_in ls v ≡ 0). inl (low_else l v ls other ∙ is_zero))
+    (λ (found : (m : Literal) × Contains ls m × (m.variable ≡ v) × (low_in ls v ≡ m.low)).
+    inr (found.0, Contains-rest l ls found.0 found.1, found.2, low_else l v ls other ∙ found.3))
     (low_of_some ls v))
     (cases_eq l.variable v)
 
@@ -49,21 +49,22 @@ bound_of_some : (k : ℕ) (ls : List Literal) (v : ℕ) →
 bound_of_some k [] v = inl (refl, refl, refl)
 bound_of_some k (l ∷ ls) v = ⊎_elim
     -- the first literal is on the variable, and is the one that bounds it
-    (λ (e : l.variable ≡ v). inr (
+    (λ (same : l.variable ≡ v). inr (
       l,
       Contains-first l ls,
-      e,
-      bound_here l v ls e,
-      cond-true (l.variable == v) l.high (high_in k ls v) (eq-eqb l.variable v e),
+      same,
+      bound_here l v ls same,
+      cond-true (l.variable == v) l.high (high_in k ls v) (eq-eqb l.variable v same),
     ))
-    -- it isn't, so the bound is that of the others
-    (λ (n : l.variable ≡ v → ⊥).
-    let high = cond-false (l.variable == v) l.high (high_in k ls v) (ne_eqb l.variable v n) in
+    -- the first literal is on another variable, so the bound is that of the rest
+    (λ (other : l.variable ≡ v → ⊥).
+    let high = cond-false (l.variable == v) l.high (high_in k ls v) (ne_eqb l.variable v other) in
     ⊎_elim
-    (λ (z : (bound_in ls v ≡ 255) × (low_in ls v ≡ 0) × (high_in k ls v ≡ top k v)).
-    inl (bound_else l v ls n ∙ z.0, low_else l v ls n ∙ z.1, high ∙ z.2))
-    (λ (r : (m : Literal) × Contains ls m × (m.variable ≡ v) × (bound_in ls v ≡ m.high) × (high_in k ls v ≡ m.high)).
-    inr (r.0, Contains-rest l ls r.0 r.1, r.2, bound_else l v ls n ∙ r.3, high ∙ r.4))
+    (λ (unbounded : (bound_in ls v ≡ 255) × (low_in ls v ≡ 0) × (high_in k ls v ≡ top k v)).
+    inl (bound_else l v ls other ∙ unbounded.0, low_else l v ls other ∙ unbounded.1, high ∙ unbounded.2))
+    (λ (found : (m : Literal) × Contains ls m × (m.variable ≡ v) × (bound_in ls v ≡ m.high) ×
+    (high_in k ls v ≡ m.high)).
+    inr (found.0, Contains-rest l ls found.0 found.1, found.2, bound_else l v ls other ∙ found.3, high ∙ found.4))
     (bound_of_some k ls v))
     (cases_eq l.variable v)
 
@@ -71,29 +72,30 @@ bound_of_some k (l ∷ ls) v = ⊎_elim
 pub bound_of_literal : (cube : List Literal) (l : Literal) → IsRising cube → Contains cube l →
     bound_in cube l.variable ≡ l.high
 -- by induction on the literals
-bound_of_literal [] l r c = absurd (Contains-nil l c)
-bound_of_literal (m ∷ ms) l r c = ⊎_elim
-    (λ (e : m ≡ l). bound_here m l.variable ms (ap (λ (n : Literal). n.variable) e) ∙ ap (λ (n : Literal). n.high) e)
-    (λ (d : Contains ms l). let h = rising_first m l ms r d in
-    bound_else m l.variable ms (λ e. omega arith) ∙ bound_of_literal ms l (rising_rest m ms r) d)
-    (Contains-cases m ms l c)
+bound_of_literal [] l rises member = absurd (Contains-nil l member)
+bound_of_literal (m ∷ ms) l rises member = ⊎_elim
+    (λ (same : m ≡ l). bound_here m l.variable ms (ap (λ (n : Literal). n.variable) same)
+    ∙ ap (λ (n : Literal). n.high) same)
+    (λ (in_rest : Contains ms l). let above = rising_first m l ms rises in_rest in
+    bound_else m l.variable ms (λ equal. omega arith) ∙ bound_of_literal ms l (rising_rest m ms rises) in_rest)
+    (Contains-cases m ms l member)
 
 -- ---- the sum of the greater lows
 
--- the literal with only as much of its low as is above that of the cube a: how many more faults it asks for
+-- the literal with its low less the cube a's low of its variable: what it asks for beyond that low
 raised : List Literal → Literal → Literal
 raised a l = record { variable = l.variable; low = l.low - low_in a l.variable; high = l.high }
 
--- the low of a raised cube is how far the low of the cube `ls` is above that of `a`
+-- the low of v in the raised literals of `ls` is how far the low of `ls` is above that of `a`, and else 0
 low_raised : (a ls : List Literal) (v : ℕ) → low_in (map (raised a) ls) v ≡ low_in ls v - low_in a v
 unfolding raised
 -- by induction on the literals, and by whether `l.variable` is `v`
-low_raised a [] v = let z : 0 ≡ 0 - low_in a v = omega arith in z
+low_raised a [] v = let zero : 0 ≡ 0 - low_in a v = omega arith in zero
 low_raised a (l ∷ ls) v = ⊎_elim
-    (λ (e : l.variable ≡ v). low_here (raised a l) v (map (raised a) ls) e
-    ∙ ap₂ ◌-◌ (sym (low_here l v ls e)) (ap (low_in a) e))
-    (λ (n : l.variable ≡ v → ⊥). low_else (raised a l) v (map (raised a) ls) n ∙ low_raised a ls v
-    ∙ ap (λ x. x - low_in a v) (sym (low_else l v ls n)))
+    (λ (same : l.variable ≡ v). low_here (raised a l) v (map (raised a) ls) same
+    ∙ ap₂ ◌-◌ (sym (low_here l v ls same)) (ap (low_in a) same))
+    (λ (other : l.variable ≡ v → ⊥). low_else (raised a l) v (map (raised a) ls) other ∙ low_raised a ls v
+    ∙ ap (λ x. x - low_in a v) (sym (low_else l v ls other)))
     (cases_eq l.variable v)
 
 -- given: a cube a of a graph, and its bounds
@@ -104,7 +106,7 @@ module _ (g : Graph) (few : process_count g ≤ 128) (a : List Literal) (is_a : 
   unfolding raised
   raised_is b is = record {
     rising = AllPairs-map (λ (l m : Literal). l.variable < m.variable) (λ (l m : Literal). l.variable < m.variable)
-        (raised a) b (λ l m h. h) is.rising;
+        (raised a) b (λ l m rise. rise) is.rising;
     known = All-map (λ l. IsVariable g l.variable) (raised a) b is.known;
   }
 
@@ -113,13 +115,13 @@ module _ (g : Graph) (few : process_count g ≤ 128) (a : List Literal) (is_a : 
   unfolding raised
   -- a count asks for its raised low, which is what it asks beyond the other's; a value asks for none
   more_of_raised l = ⊎_elim
-      (λ (h : l.variable < 128). let e = are.low l.variable (omega arith) in
-      cond-true (nat_lt l.variable 128) (l.low - low_in a l.variable) 0 (lt-ltb l.variable 128 h)
-      ∙ ap (λ n. l.low - n) (sym e)
-      ∙ sym (cond-true (nat_lt l.variable 128) (l.low - get_or lows l.variable 0) 0 (lt-ltb l.variable 128 h)))
-      (λ (h : 128 ≤ l.variable).
-      cond-false (nat_lt l.variable 128) (l.low - low_in a l.variable) 0 (le-ltb l.variable 128 h)
-      ∙ sym (cond-false (nat_lt l.variable 128) (l.low - get_or lows l.variable 0) 0 (le-ltb l.variable 128 h)))
+      (λ (is_count : l.variable < 128). let low_is = are.low l.variable (omega arith) in
+      cond-true (nat_lt l.variable 128) (l.low - low_in a l.variable) 0 (lt-ltb l.variable 128 is_count)
+      ∙ ap (λ n. l.low - n) (sym low_is)
+      ∙ sym (cond-true (nat_lt l.variable 128) (l.low - get_or lows l.variable 0) 0 (lt-ltb l.variable 128 is_count)))
+      (λ (is_value : 128 ≤ l.variable).
+      cond-false (nat_lt l.variable 128) (l.low - low_in a l.variable) 0 (le-ltb l.variable 128 is_value)
+      ∙ sym (cond-false (nat_lt l.variable 128) (l.low - get_or lows l.variable 0) 0 (le-ltb l.variable 128 is_value)))
       (cases_lt l.variable 128)
 
   -- the greater lows of the cubes a and b add up to what a asks for and what b asks for beyond a's lows
@@ -128,12 +130,12 @@ module _ (g : Graph) (few : process_count g ≤ 128) (a : List Literal) (is_a : 
   -- the greater of two lows is the first and what the second is above it; each part is summed up over the literals
   sum_of_both b is =
       same_sum_by (both_low a b) (λ v. low_in a v + low_in (map (raised a) b) v) (numbers_below (process_count g))
-      (λ v c. let e = low_raised a b v in omega arith)
+      (λ v member. let raised_low = low_raised a b v in omega arith)
       ∙ sum_by-add (low_in a) (low_in (map (raised a) b)) (numbers_below (process_count g))
       ∙ ap₂ ◌+◌ (budget_of_cube g few a is_a)
       (budget_of_cube g few (map (raised a) b) (raised_is b is)
       ∙ sum_by-map asked_of_literal (raised a) b
-      ∙ same_sum_by (λ l. asked_of_literal (raised a l)) (more_asked lows) b (λ l c. more_of_raised l))
+      ∙ same_sum_by (λ l. asked_of_literal (raised a l)) (more_asked lows) b (λ l member. more_of_raised l))
 
   -- ---- two cubes
 
@@ -142,92 +144,96 @@ module _ (g : Graph) (few : process_count g ≤ 128) (a : List Literal) (is_a : 
       (rest : left + asked_faults a ≡ g.faults) (b : List Literal) (is_b : IsCube g b) where
     -- each variable of b is below 256
     is_small : (l : Literal) → Contains b l → l.variable < 256
-    is_small l c = ⊎_elim
-        (λ (h : l.variable < process_count g). omega arith)
-        (λ (h : (128 ≤ l.variable) × (l.variable < 128 + condition_count g)). omega (arith, h.1))
-        (All-contains (λ m. IsVariable g m.variable) b l is_b.known c)
+    is_small l member = ⊎_elim
+        (λ (is_count : l.variable < process_count g). omega arith)
+        (λ (is_value : (128 ≤ l.variable) × (l.variable < 128 + condition_count g)). omega (arith, is_value.1))
+        (All-contains (λ m. IsVariable g m.variable) b l is_b.known member)
 
     -- no variable has a top above 255
     top_small : (v : ℕ) → top g.faults v ≤ 255
     -- the top of a count is the graph's faults, of which there are few; that of a value is 1
     top_small v = ⊎_elim
-        (λ (h : v < 128). let e = top_of_count g.faults v h in omega arith)
-        (λ (h : 128 ≤ v). let e = top_of_value g.faults v h in omega arith)
+        (λ (is_count : v < 128). let top_is = top_of_count g.faults v is_count in omega arith)
+        (λ (is_value : 128 ≤ v). let top_is = top_of_value g.faults v is_value in omega arith)
         (cases_lt v 128)
 
     -- no literal of the first cube is empty
     open_first : (l : Literal) → Contains a l → is_open g.faults l ≡ true
-    open_first l c = from_all (is_open g.faults) a l
-        (and_parts (list_all (is_open g.faults) a) (nat_le (asked_faults a) g.faults) met).0 c
+    open_first l member = from_all (is_open g.faults) a l
+        (and_parts (list_all (is_open g.faults) a) (nat_le (asked_faults a) g.faults) met).0 member
 
     -- a literal of b that touches the range of its variable can hold, and shares a number with a's range
     touch_parts : (l : Literal) → Contains b l → touches g.faults lows highs l ≡ true →
         (is_open g.faults l ≡ true) × (low_in a l.variable ≤ l.high) × (l.low ≤ bound_in a l.variable)
     -- the three tests of `touches`, with the low and the bound that the lists have for the variable
-    touch_parts l c t =
-        let r = and_parts (is_open g.faults l && nat_le (get_or lows l.variable 0) l.high)
-        (nat_le l.low (get_or highs l.variable 0)) t in
-        let s = and_parts (is_open g.faults l) (nat_le (get_or lows l.variable 0) l.high) r.0 in
-        let x = leb-true (get_or lows l.variable 0) l.high s.1 in
-        let y = leb-true l.low (get_or highs l.variable 0) r.1 in
-        let e = are.low l.variable (is_small l c) in
-        let f = are.high l.variable (is_small l c) in
-        (s.0, omega arith, omega arith)
+    touch_parts l member touched =
+        let parts = and_parts (is_open g.faults l && nat_le (get_or lows l.variable 0) l.high)
+        (nat_le l.low (get_or highs l.variable 0)) touched in
+        let first_parts = and_parts (is_open g.faults l) (nat_le (get_or lows l.variable 0) l.high) parts.0 in
+        let low_below = leb-true (get_or lows l.variable 0) l.high first_parts.1 in
+        let high_above = leb-true l.low (get_or highs l.variable 0) parts.1 in
+        let low_is = are.low l.variable (is_small l member) in
+        let high_is = are.high l.variable (is_small l member) in
+        (first_parts.0, omega arith, omega arith)
 
     -- the cubes meet if each literal of b touches the range of its variable and asks for no more than the faults left
     meet_from_touch : list_all (touches g.faults lows highs) b ≡ true → sum_by (more_asked lows) b ≤ left →
         do_meet g a b ≡ true
-    -- the literals of a reach b's lows (0, or the low of a literal that touches), those of b reach a's, and the greater lows
-    -- are within the faults
-    meet_from_touch t h = and_from _ _
+    -- the literals of a reach b's lows (0, or the low of a literal that touches), those of b reach a's, and the greater
+    -- lows are within the faults
+    meet_from_touch touched few_asked = and_from _ _
         (and_from _ _
         (all_from (reaches g.faults b) a
-        (λ l c. and_from _ _ (open_first l c) (le-leb (low_in b l.variable) l.high (⊎_elim
-        (λ (z : low_in b l.variable ≡ 0). omega arith)
-        (λ (m : (m : Literal) × Contains b m × (m.variable ≡ l.variable) × (low_in b l.variable ≡ m.low)).
-        let p = (touch_parts m.0 m.1 (from_all (touches g.faults lows highs) b m.0 t m.1)).2 in
-        let e = ap (bound_in a) m.2 ∙ bound_of_literal a l is_a.rising c in
-        let f = m.3 in
+        (λ l member. and_from _ _ (open_first l member) (le-leb (low_in b l.variable) l.high (⊎_elim
+        (λ (is_zero : low_in b l.variable ≡ 0). omega arith)
+        (λ (found : (m : Literal) × Contains b m × (m.variable ≡ l.variable) × (low_in b l.variable ≡ m.low)).
+        let low_below = (touch_parts found.0 found.1
+        (from_all (touches g.faults lows highs) b found.0 touched found.1)).2 in
+        let bound_is = ap (bound_in a) found.2 ∙ bound_of_literal a l is_a.rising member in
+        let low_is = found.3 in
         omega arith)
         (low_of_some b l.variable)))))
-        (all_from (reaches g.faults a) b (λ l c.
-        let p = touch_parts l c (from_all (touches g.faults lows highs) b l t c) in
-        and_from _ _ p.0 (le-leb (low_in a l.variable) l.high p.1))))
-        (le-leb _ _ (let e = sum_of_both b is_b in omega arith))
+        (all_from (reaches g.faults a) b (λ l member.
+        let parts = touch_parts l member (from_all (touches g.faults lows highs) b l touched member) in
+        and_from _ _ parts.0 (le-leb (low_in a l.variable) l.high parts.1))))
+        (le-leb _ _ (let sum_is = sum_of_both b is_b in omega arith))
 
     -- if the cubes meet, each literal of b touches the range of its variable, and they ask for no more than is left
     touch_from_meet : do_meet g a b ≡ true →
         (list_all (touches g.faults lows highs) b ≡ true) × (sum_by (more_asked lows) b ≤ left)
-    touch_from_meet t =
-        -- what it says that the cubes meet: literals reach the other's lows, and the lows fit the faults
-        let r = and_parts (list_all (reaches g.faults b) a && list_all (reaches g.faults a) b)
-        (nat_le (sum_by (both_low a b) (numbers_below (process_count g))) g.faults) t in
-        let q = and_parts (list_all (reaches g.faults b) a) (list_all (reaches g.faults a) b) r.0 in
-        let s = leb-true _ _ r.1 in
-        let e = sum_of_both b is_b in (
-          all_from (touches g.faults lows highs) b (λ l c.
+    touch_from_meet meets =
+        -- as the cubes meet, each one's literals reach the lows of the other, and the greater lows fit the faults
+        let parts = and_parts (list_all (reaches g.faults b) a && list_all (reaches g.faults a) b)
+        (nat_le (sum_by (both_low a b) (numbers_below (process_count g))) g.faults) meets in
+        let reach_both = and_parts (list_all (reaches g.faults b) a) (list_all (reaches g.faults a) b) parts.0 in
+        let few_asked = leb-true _ _ parts.1 in
+        let sum_is = sum_of_both b is_b in (
+          all_from (touches g.faults lows highs) b (λ l member.
               -- one literal of b: its range is open, and reaches the first cube's low
-              let u = and_parts (is_open g.faults l) (nat_le (low_in a l.variable) l.high)
-              (from_all (reaches g.faults a) b l q.1 c) in
-              let x = leb-true (low_in a l.variable) l.high u.1 in
-              let o = leb-true l.low (top g.faults l.variable)
-              (and_parts (nat_le l.low l.high) (nat_le l.low (top g.faults l.variable)) u.0).1 in
-              let w = top_small l.variable in
-              let e = are.low l.variable (is_small l c) in
-              let f = are.high l.variable (is_small l c) in
+              let reach_parts = and_parts (is_open g.faults l) (nat_le (low_in a l.variable) l.high)
+              (from_all (reaches g.faults a) b l reach_both.1 member) in
+              let low_reached = leb-true (low_in a l.variable) l.high reach_parts.1 in
+              let below_top = leb-true l.low (top g.faults l.variable)
+              (and_parts (nat_le l.low l.high) (nat_le l.low (top g.faults l.variable)) reach_parts.0).1 in
+              let top_bound = top_small l.variable in
+              let low_is = are.low l.variable (is_small l member) in
+              let high_is = are.high l.variable (is_small l member) in
               -- its low is within the first cube's bound, whether a literal stands there or not
               let below : l.low ≤ bound_in a l.variable = ⊎_elim
-              (λ (z : (bound_in a l.variable ≡ 255) × (low_in a l.variable ≡ 0) × (high_in g.faults a l.variable ≡ top g.faults l.variable)).
-              let y = z.0 in
+              (λ (unbounded : (bound_in a l.variable ≡ 255) × (low_in a l.variable ≡ 0) ×
+              (high_in g.faults a l.variable ≡ top g.faults l.variable)).
+              let bound_is = unbounded.0 in
               omega arith)
-              (λ (m : (m : Literal) × Contains a m × (m.variable ≡ l.variable) × (bound_in a l.variable ≡ m.high) × (high_in g.faults a l.variable ≡ m.high)).
-              let i = leb-true (low_in b m.0.variable) m.0.high (and_parts (is_open g.faults m.0)
-              (nat_le (low_in b m.0.variable) m.0.high) (from_all (reaches g.faults b) a m.0 q.0 m.1)).1 in
-              let j = ap (low_in b) m.2 ∙ (range_of_literal g.faults b l is_b.rising c).0 in
-              let y = m.3 in
+              (λ (found : (m : Literal) × Contains a m × (m.variable ≡ l.variable) × (bound_in a l.variable ≡ m.high) ×
+              (high_in g.faults a l.variable ≡ m.high)).
+              let reached_low = leb-true (low_in b found.0.variable) found.0.high (and_parts (is_open g.faults found.0)
+              (nat_le (low_in b found.0.variable) found.0.high)
+              (from_all (reaches g.faults b) a found.0 reach_both.0 found.1)).1 in
+              let low_of_b = ap (low_in b) found.2 ∙ (range_of_literal g.faults b l is_b.rising member).0 in
+              let bound_is = found.3 in
               omega arith)
               (bound_of_some g.faults a l.variable) in
-              and_from _ _ (and_from _ _ u.0 (le-leb (get_or lows l.variable 0) l.high (omega arith)))
+              and_from _ _ (and_from _ _ reach_parts.0 (le-leb (get_or lows l.variable 0) l.high (omega arith)))
               (le-leb l.low (get_or highs l.variable 0) (omega arith))),
           omega arith,
         )
@@ -236,8 +242,8 @@ module _ (g : Graph) (few : process_count g ≤ 128) (a : List Literal) (is_a : 
     pub fits_is_meet : is_some (budget_left (touches g.faults lows highs) (more_asked lows) left b) ≡ do_meet g a b
     fits_is_meet = budget_is (touches g.faults lows highs) (more_asked lows) left b ∙ same_truth
         (list_all (touches g.faults lows highs) b && nat_le (sum_by (more_asked lows) b) left) (do_meet g a b)
-        (λ t. let r = and_parts _ _ t in meet_from_touch r.0 (leb-true _ _ r.1))
-        (λ t. let r = touch_from_meet t in and_from _ _ r.0 (le-leb _ _ r.1))
+        (λ tests. let parts = and_parts _ _ tests in meet_from_touch parts.0 (leb-true _ _ parts.1))
+        (λ meets. let touch = touch_from_meet meets in and_from _ _ touch.0 (le-leb _ _ touch.1))
 
     -- ---- within the other
 
@@ -246,40 +252,47 @@ module _ (g : Graph) (few : process_count g ≤ 128) (a : List Literal) (is_a : 
         min (get_or highs l.variable 0) (cond (nat_lt l.variable 128) (get_or lows l.variable 0 + left) 1)
         ≡ most_in g.faults a l.variable
     -- a count is bounded by its low and the faults left, a value by 1
-    most_is l c =
+    most_is l member =
         -- the low and the bound of the variable, as the lists have them
-        let e = are.low l.variable (is_small l c) in
-        let f = are.high l.variable (is_small l c) in
+        let low_is = are.low l.variable (is_small l member) in
+        let high_is = are.high l.variable (is_small l member) in
         ⊎_elim
         -- a count: its bound, or its low and the faults that are left
-        (λ (h : l.variable < 128).
-        let x = cond-true (nat_lt l.variable 128) (get_or lows l.variable 0 + left) 1 (lt-ltb l.variable 128 h) in
-        let y = cond-true (nat_lt l.variable 128) (low_in a l.variable + (g.faults - asked_faults a)) 1
-        (lt-ltb l.variable 128 h) in
-        let t = top_of_count g.faults l.variable h in
-        ap₂ min f x ∙ (⊎_elim
-        (λ (z : (bound_in a l.variable ≡ 255) × (low_in a l.variable ≡ 0) × (high_in g.faults a l.variable ≡ top g.faults l.variable)).
-        let p = z.0 in let q = z.1 in let r = z.2 in omega arith)
-        (λ (m : (m : Literal) × Contains a m × (m.variable ≡ l.variable) × (bound_in a l.variable ≡ m.high) × (high_in g.faults a l.variable ≡ m.high)).
-        let p = m.3 in let q = m.4 in omega arith)
-        (bound_of_some g.faults a l.variable)) ∙ ap (min (high_in g.faults a l.variable)) (sym y))
+        (λ (is_count : l.variable < 128).
+        let allowed_is = cond-true (nat_lt l.variable 128) (get_or lows l.variable 0 + left) 1
+        (lt-ltb l.variable 128 is_count) in
+        let allowed_in_a = cond-true (nat_lt l.variable 128) (low_in a l.variable + (g.faults - asked_faults a)) 1
+        (lt-ltb l.variable 128 is_count) in
+        let top_is = top_of_count g.faults l.variable is_count in
+        ap₂ min high_is allowed_is ∙ (⊎_elim
+        (λ (unbounded : (bound_in a l.variable ≡ 255) × (low_in a l.variable ≡ 0) ×
+        (high_in g.faults a l.variable ≡ top g.faults l.variable)).
+        let bound_is = unbounded.0 in let low_zero = unbounded.1 in let high_is_top = unbounded.2 in omega arith)
+        (λ (found : (m : Literal) × Contains a m × (m.variable ≡ l.variable) × (bound_in a l.variable ≡ m.high) ×
+        (high_in g.faults a l.variable ≡ m.high)).
+        let bound_is = found.3 in let high_of_a = found.4 in omega arith)
+        (bound_of_some g.faults a l.variable)) ∙ ap (min (high_in g.faults a l.variable)) (sym allowed_in_a))
         -- a value: its bound, or 1
-        (λ (h : 128 ≤ l.variable).
-        let x = cond-false (nat_lt l.variable 128) (get_or lows l.variable 0 + left) 1 (le-ltb l.variable 128 h) in
-        let y = cond-false (nat_lt l.variable 128) (low_in a l.variable + (g.faults - asked_faults a)) 1
-        (le-ltb l.variable 128 h) in
-        let t = top_of_value g.faults l.variable h in
-        ap₂ min f x ∙ (⊎_elim
-        (λ (z : (bound_in a l.variable ≡ 255) × (low_in a l.variable ≡ 0) × (high_in g.faults a l.variable ≡ top g.faults l.variable)).
-        let p = z.0 in let r = z.2 in omega arith)
-        (λ (m : (m : Literal) × Contains a m × (m.variable ≡ l.variable) × (bound_in a l.variable ≡ m.high) × (high_in g.faults a l.variable ≡ m.high)).
-        let p = m.3 in let q = m.4 in omega arith)
-        (bound_of_some g.faults a l.variable)) ∙ ap (min (high_in g.faults a l.variable)) (sym y))
+        (λ (is_value : 128 ≤ l.variable).
+        let allowed_is = cond-false (nat_lt l.variable 128) (get_or lows l.variable 0 + left) 1
+        (le-ltb l.variable 128 is_value) in
+        let allowed_in_a = cond-false (nat_lt l.variable 128) (low_in a l.variable + (g.faults - asked_faults a)) 1
+        (le-ltb l.variable 128 is_value) in
+        let top_is = top_of_value g.faults l.variable is_value in
+        ap₂ min high_is allowed_is ∙ (⊎_elim
+        (λ (unbounded : (bound_in a l.variable ≡ 255) × (low_in a l.variable ≡ 0) ×
+        (high_in g.faults a l.variable ≡ top g.faults l.variable)).
+        let bound_is = unbounded.0 in let high_is_top = unbounded.2 in omega arith)
+        (λ (found : (m : Literal) × Contains a m × (m.variable ≡ l.variable) × (bound_in a l.variable ≡ m.high) ×
+        (high_in g.faults a l.variable ≡ m.high)).
+        let bound_is = found.3 in let high_of_a = found.4 in omega arith)
+        (bound_of_some g.faults a l.variable)) ∙ ap (min (high_in g.faults a l.variable)) (sym allowed_in_a))
         (cases_lt l.variable 128)
 
     -- every literal of the other cube spans the bounds exactly if the cube lies within the other
     pub spans_is_within : list_all (spans lows highs left) b ≡ is_within g.faults a b
     spans_is_within =
         same_all (spans lows highs left) (bounds g.faults a) b
-        (λ l c. ap₂ (λ x y. nat_le l.low x && nat_le y l.high) (are.low l.variable (is_small l c)) (most_is l c))
+        (λ l member. ap₂ (λ x y. nat_le l.low x && nat_le y l.high) (are.low l.variable (is_small l member))
+        (most_is l member))
         ∙ sym (ap (λ m. not m || list_all (bounds g.faults a) b) met)

@@ -1,4 +1,5 @@
--- The lows of a cube along an order are the key of its least scenario, and so they are by its bounds.
+-- The lows of a cube along an order are the key of its least scenario; functions that agree on all variables give the
+-- same lows.
 use Rattle.std.proofs.Common.{ℕ, ◌<◌, ◌≤◌, ◌≡◌, true, List, [], ◌∷◌, Option, Some, None, All, Contains, IsPermutation}
 use Rattle.std.proofs.Common.{arith, refl, sym, ap, ap₂, ◌∙◌, inl, inr}
 use Rattle.std.specs.Prelude.{nat_le}
@@ -26,16 +27,16 @@ module _ (g : Graph) (few : process_count g ≤ 128) (few_conditions : condition
     (same : (v : ℕ) → v < 256 → low v ≡ other v) where
   -- both give the same low of the value of p's condition, if p has one
   same_value : (p : ℕ) (o : Option ℕ) → condition_of g p ≡ o → low_of_value low o ≡ low_of_value other o
-  same_value p None e = refl
-  same_value p (Some c) e = let l = condition_of_below g p c e in
-      ap (λ (n : ℕ). n ∷ []) (same (value_variable c) (omega (arith, l, few_conditions)))
+  same_value p None condition_is = refl
+  same_value p (Some c) condition_is = let below = condition_of_below g p c condition_is in
+      ap (λ (n : ℕ). n ∷ []) (same (value_variable c) (omega (arith, below, few_conditions)))
 
   -- two functions that agree on all variables of the graph give the same lows along an order
   pub same_along : (order : List ℕ) → All (λ p. p < process_count g) order →
       lows_along g order low ≡ lows_along g order other
-  same_along order within = same_flat_map (lows_of g low) (lows_of g other) order (λ p m.
-      let l = All-contains (λ p. p < process_count g) order p within m in
-      ap₂ ◌∷◌ (same p (omega (arith, l, few))) (same_value p (condition_of g p) refl))
+  same_along order within = same_flat_map (lows_of g low) (lows_of g other) order (λ p member.
+      let below = All-contains (λ p. p < process_count g) order p within member in
+      ap₂ ◌∷◌ (same p (omega (arith, below, few))) (same_value p (condition_of g p) refl))
 
 -- ---- the key of the least scenario
 
@@ -43,10 +44,10 @@ module _ (g : Graph) (few : process_count g ≤ 128) (few_conditions : condition
 module _ (g : Graph) (few : process_count g ≤ 128) (cube : List Literal) (met : is_met g.faults cube ≡ true) where
   -- no low of the met cube is above its top
   low_le_top : (l : Literal) → Contains cube l → l.low ≤ top g.faults l.variable
-  low_le_top l j =
+  low_le_top l member =
       let open_all = (and_parts (list_all (is_open g.faults) cube) (nat_le (asked_faults cube) g.faults) met).0 in
       leb-true l.low (top g.faults l.variable) (and_parts (nat_le l.low l.high) (nat_le l.low (top g.faults l.variable))
-      (from_all (is_open g.faults) cube l open_all j)).1
+      (from_all (is_open g.faults) cube l open_all member)).1
 
   -- the scenario at the lows has them as its numbers
   number_is : (v : ℕ) → IsVariable g v → number_of (lows g cube) v ≡ low_in cube v
@@ -55,16 +56,16 @@ module _ (g : Graph) (few : process_count g ≤ 128) (cube : List Literal) (met 
   -- the low of a process's value is the value's number in the key
   value_is : (p : ℕ) (o : Option ℕ) → condition_of g p ≡ o →
       low_of_value (low_in cube) o ≡ value_in_key (lows g cube).values o
-  value_is p None e = refl
-  value_is p (Some d) e = ap (λ (n : ℕ). n ∷ []) (
-      let l = condition_of_below g p d e in
-      sym (number_is (value_variable d) (inr (omega arith, omega (arith, l)))) ∙ number_of-value (lows g cube) d)
+  value_is p None condition_is = refl
+  value_is p (Some d) condition_is = ap (λ (n : ℕ). n ∷ []) (
+      let below = condition_of_below g p d condition_is in
+      sym (number_is (value_variable d) (inr (omega arith, omega (arith, below)))) ∙ number_of-value (lows g cube) d)
 
   -- the lows of a cube along an order are the key of its least scenario
   pub lows_are_key : (order : List ℕ) → IsPermutation (numbers_below (process_count g)) order →
       lows_along g order (low_in cube) ≡ key g order (lows g cube)
   lows_are_key order all = same_flat_map (lows_of g (low_in cube))
-      (λ p. fault_of (lows g cube) p ∷ value_in_key (lows g cube).values (condition_of g p)) order (λ p m.
-      let l = All-contains (λ p. p < process_count g) order p (within_order (process_count g) order all) m in
-      ap₂ ◌∷◌ (sym (number_is p (inl l)) ∙ number_of-fault (lows g cube) p (omega (arith, l, few)))
+      (λ p. fault_of (lows g cube) p ∷ value_in_key (lows g cube).values (condition_of g p)) order (λ p member.
+      let below = All-contains (λ p. p < process_count g) order p (within_order (process_count g) order all) member in
+      ap₂ ◌∷◌ (sym (number_is p (inl below)) ∙ number_of-fault (lows g cube) p (omega (arith, below, few)))
       (value_is p (condition_of g p) refl))

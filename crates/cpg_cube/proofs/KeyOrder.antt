@@ -1,4 +1,5 @@
--- Columns with keys, sorted by these, and the columns alone.
+-- Columns sorted by their keys are sorted by their cubes' lows along the order, and the first column by keys is the
+-- first by lows.
 use Rattle.std.proofs.lemmas.List.Elements.{All-tail, Contains-get_or}
 use Rattle.cpg_base.proofs.Lists.{numbers-Contains}
 use Rattle.std.proofs.Common.{Ordering, Less, Equal, Greater, ℕ, suc, ◌+◌, ◌-◌, ◌*◌, ◌<◌, ◌≤◌, ◌≡◌, ◌≢◌, ◌==◌, Bool}
@@ -39,17 +40,17 @@ is_total {T} = ranks_by nat_list_cmp_total (λ (r : Ranked T). r.key.items)
 
 -- a greater number is compared as such
 cmp_more : (x y : ℕ) → y < x → nat_cmp x y ≡ Greater
-cmp_more x y l = cond-false (nat_lt x y) Less _ (le-ltb x y (omega (arith, l)))
-    ∙ cond-false (x == y) Equal Greater (ne_eqb x y (λ e. omega (arith, e, l)))
+cmp_more x y more = cond-false (nat_lt x y) Less _ (le-ltb x y (omega (arith, more)))
+    ∙ cond-false (x == y) Equal Greater (ne_eqb x y (λ equal. omega (arith, equal, more)))
 
 -- a low of 0 adds nothing to a key
 pub asked_zero : (left x : ℕ) (xs : List ℕ) → x ≡ 0 → asked_from left (x ∷ xs) ≡ asked_from (left - 1) xs
-asked_zero left x xs e = cond-true (x == 0) _ _ (eq-eqb x 0 e)
+asked_zero left x xs is_zero = cond-true (x == 0) _ _ (eq-eqb x 0 is_zero)
 
 -- a low above 0 adds itself and how many places are left, as one number
 pub asked_some : (left x : ℕ) (xs : List ℕ) → x ≢ 0 →
     asked_from left (x ∷ xs) ≡ (left * 256 + x) ∷ asked_from (left - 1) xs
-asked_some left x xs n = cond-false (x == 0) _ _ (ne_eqb x 0 n)
+asked_some left x xs not_zero = cond-false (x == 0) _ _ (ne_eqb x 0 not_zero)
 
 -- lists with the same first number are compared by the rest
 pub same_first : (x : ℕ) (xs ys : List ℕ) → is_below (x ∷ xs) (x ∷ ys) ≡ is_below xs ys
@@ -57,7 +58,7 @@ same_first x xs ys = ap (λ (o : Ordering). is_lt (ordering_then o (slice_cmp na
 
 -- if x is greater than y, a list that begins with x isn't below one that begins with y
 pub more_first : (x y : ℕ) (xs ys : List ℕ) → y < x → is_below (x ∷ xs) (y ∷ ys) ≡ false
-more_first x y xs ys l = ap (λ (o : Ordering). is_lt (ordering_then o (slice_cmp nat_cmp xs ys))) (cmp_more x y l)
+more_first x y xs ys more = ap (λ (o : Ordering). is_lt (ordering_then o (slice_cmp nat_cmp xs ys))) (cmp_more x y more)
 
 -- given: the lows of two cubes, of which the first are bytes
 module _ (low high : ℕ → ℕ) (bytes : (v : ℕ) → low v < 256) where
@@ -65,19 +66,20 @@ module _ (low high : ℕ → ℕ) (bytes : (v : ℕ) → low v < 256) where
   later_below : (left : ℕ) (vs : List ℕ) (first : ℕ) (rest : List ℕ) → left * 256 + 255 < first →
       is_below (asked_from left (map low vs)) (first ∷ rest) ≡ true
   -- by induction on the numbers, and by whether `low v` is 0
-  later_below left [] first rest l = refl
-  later_below left (v ∷ vs) first rest l = elim (cases_eq (low v) 0) [
-    | inl e ↦ ap (λ (k : List ℕ). is_below k (first ∷ rest)) (asked_zero left (low v) (map low vs) e)
-        ∙ later_below (left - 1) vs first rest (omega (arith, l))
-    | inr n ↦ ap (λ (k : List ℕ). is_below k (first ∷ rest)) (asked_some left (low v) (map low vs) n) ∙
-        below-cons_less (left * 256 + low v) first (asked_from (left - 1) (map low vs)) rest (omega (arith, l, bytes v))
+  later_below left [] first rest above = refl
+  later_below left (v ∷ vs) first rest above = elim (cases_eq (low v) 0) [
+    | inl is_zero ↦ ap (λ (k : List ℕ). is_below k (first ∷ rest)) (asked_zero left (low v) (map low vs) is_zero)
+        ∙ later_below (left - 1) vs first rest (omega (arith, above))
+    | inr not_zero ↦ ap (λ (k : List ℕ). is_below k (first ∷ rest)) (asked_some left (low v) (map low vs) not_zero) ∙
+        below-cons_less (left * 256 + low v) first (asked_from (left - 1) (map low vs)) rest
+        (omega (arith, above, bytes v))
   ]
 
   -- if the lows are before the highs as lists, the numbers of their keys are too; by induction on the variables
   asked_below : (left : ℕ) (vs : List ℕ) → length vs ≤ left → is_below (map low vs) (map high vs) ≡ true →
       is_below (asked_from left (map low vs)) (asked_from left (map high vs)) ≡ true
-  asked_below left [] few h = h
-  asked_below left (v ∷ vs) few h =
+  asked_below left [] few below = below
+  asked_below left (v ∷ vs) few below =
       let x = low v in
       let y = high v in
       let xs = map low vs in
@@ -86,27 +88,29 @@ module _ (low high : ℕ → ℕ) (bytes : (v : ℕ) → low v < 256) where
       let later_ys = asked_from (left - 1) ys in
       elim (cases_order x y) [
         -- the first numbers are the same, so the later ones decide; zeros aren't written
-        | inl e ↦
+        | inl same ↦
             let inner : is_below later_xs later_ys ≡ true = asked_below (left - 1) vs (omega (arith, few))
-            (sym (same_first x xs ys) ∙ ap (λ w. is_below (x ∷ xs) (w ∷ ys)) e ∙ h) in
+            (sym (same_first x xs ys) ∙ ap (λ w. is_below (x ∷ xs) (w ∷ ys)) same ∙ below) in
             elim (cases_eq x 0) [
-              | inl z ↦ ap₂ is_below (asked_zero left x xs z) (asked_zero left y ys (sym e ∙ z)) ∙ inner
-              | inr n ↦ ap₂ is_below (asked_some left x xs n)
-                  (asked_some left y ys (λ z. n (e ∙ z)) ∙ ap (λ w. (left * 256 + w) ∷ later_ys) (sym e))
+              | inl is_zero ↦ ap₂ is_below (asked_zero left x xs is_zero) (asked_zero left y ys (sym same ∙ is_zero))
+                  ∙ inner
+              | inr not_zero ↦ ap₂ is_below (asked_some left x xs not_zero)
+                  (asked_some left y ys (λ is_zero. not_zero (same ∙ is_zero))
+                  ∙ ap (λ w. (left * 256 + w) ∷ later_ys) (sym same))
                   ∙ same_first (left * 256 + x) later_xs later_ys ∙ inner
             ]
         -- the first list has the lower number, or a zero that isn't written
-        | inr (inl l) ↦
+        | inr (inl less) ↦
             let there : asked_from left (y ∷ ys) ≡ (left * 256 + y) ∷ later_ys =
-            asked_some left y ys (λ z. omega (arith, l, z)) in
+            asked_some left y ys (λ is_zero. omega (arith, less, is_zero)) in
             elim (cases_eq x 0) [
-              | inl z ↦ ap₂ is_below (asked_zero left x xs z) there
-                  ∙ later_below (left - 1) vs (left * 256 + y) later_ys (omega (arith, few, l))
-              | inr n ↦ ap₂ is_below (asked_some left x xs n) there
-                  ∙ below-cons_less (left * 256 + x) (left * 256 + y) later_xs later_ys (omega (arith, l))
+              | inl is_zero ↦ ap₂ is_below (asked_zero left x xs is_zero) there
+                  ∙ later_below (left - 1) vs (left * 256 + y) later_ys (omega (arith, few, less))
+              | inr not_zero ↦ ap₂ is_below (asked_some left x xs not_zero) there
+                  ∙ below-cons_less (left * 256 + x) (left * 256 + y) later_xs later_ys (omega (arith, less))
             ]
         -- the other way is excluded
-        | inr (inr l) ↦ absurd (both_ways (is_below (x ∷ xs) (y ∷ ys)) (more_first x y xs ys l) h)
+        | inr (inr more) ↦ absurd (both_ways (is_below (x ∷ xs) (y ∷ ys)) (more_first x y xs ys more) below)
       ]
 
 -- the low of a variable is that of a literal, or 0
@@ -114,9 +118,10 @@ pub low_in-byte : (cube : List Literal) → AreBytes cube → (v : ℕ) → low_
 -- by induction on the literals, and by whether `l.variable` is `v`
 low_in-byte [] bytes v = omega arith
 low_in-byte (l ∷ ls) bytes v = elim (cases_eq l.variable v) [
-  | inl e ↦ subst (λ n. n < 256) (sym (cond-true (l.variable == v) l.low (low_in ls v) (eq-eqb l.variable v e)))
+  | inl same ↦ subst (λ n. n < 256) (sym (cond-true (l.variable == v) l.low (low_in ls v) (eq-eqb l.variable v same)))
       (bytes 0 l (omega arith))
-  | inr n ↦ subst (λ m. m < 256) (sym (cond-false (l.variable == v) l.low (low_in ls v) (ne_eqb l.variable v n)))
+  | inr other ↦ subst (λ m. m < 256)
+      (sym (cond-false (l.variable == v) l.low (low_in ls v) (ne_eqb l.variable v other)))
       (low_in-byte ls (All-tail (λ (m : Literal). m.low < 256) l ls bytes) v)
 ]
 
@@ -189,13 +194,15 @@ module _ {T : Type 0} (cube : T → List Literal) (columns : List T) where
       variables ≡ variables_along g order → (at : ℕ) →
       IsFirstByKeys cube variables (length columns) columns at →
       IsFirstByLows cube g order columns at
-  first_by_lows g order variables few along at h = record {
-    there = h.there;
-    first = λ j d l. lows_from_keys g order few (cube (get_or columns j d)) (cube (get_or columns at d)) (h.bytes j d l)
+  first_by_lows g order variables few along at by_keys = record {
+    there = by_keys.there;
+    first = λ j d below. lows_from_keys g order few (cube (get_or columns j d)) (cube (get_or columns at d))
+        (by_keys.bytes j d below)
         (ap₂ is_below (sym (key_is g order variables along (cube (get_or columns j d))))
-        (sym (key_is g order variables along (cube (get_or columns at d)))) ∙ h.first j d l);
+        (sym (key_is g order variables along (cube (get_or columns at d)))) ∙ by_keys.first j d below);
   }
 
+  -- given: the variables by which keys are made
   module _ (variables : List ℕ) where
     -- the key of a column at a place
     abbrev key_at : ℕ → T → List ℕ
@@ -205,10 +212,11 @@ module _ {T : Type 0} (cube : T → List Literal) (columns : List T) where
     pub first_alone : ((d : T) → AreBytes (cube (get_or columns 0 d))) → IsFirstByKeys cube variables 1 columns 0
     first_alone bytes = record {
       there = omega arith;
-      first = λ j d l. subst (λ i. is_below (key_at i d) (key_at 0 d) ≡ false) (let e : 0 ≡ j = omega (arith, l) in
-          e) (below_irreflexive (key_at 0 d));
+      first = λ j d below. subst (λ i. is_below (key_at i d) (key_at 0 d) ≡ false)
+          (let same : 0 ≡ j = omega (arith, below) in same) (below_irreflexive (key_at 0 d));
       bytes =
-          λ j d l. subst (λ i. AreBytes (cube (get_or columns i d))) (let e : 0 ≡ j = omega (arith, l) in e) (bytes d);
+          λ j d below. subst (λ i. AreBytes (cube (get_or columns i d)))
+          (let same : 0 ≡ j = omega (arith, below) in same) (bytes d);
     }
 
     -- `best` is the first of the first n columns by their keys
@@ -219,49 +227,50 @@ module _ {T : Type 0} (cube : T → List Literal) (columns : List T) where
       pub key : (d : T) → best.key.items ≡ key_at best.place d
 
     -- the best of the first n columns, and the next one with its key
-    module _ (n : ℕ) (best next : Placed) (h : IsBest n best) (at : next.place ≡ n)
+    module _ (n : ℕ) (best next : Placed) (is_best : IsBest n best) (at : next.place ≡ n)
         (key : (d : T) → IsKeyOf variables (cube (get_or columns next.place d)) next.key.items) where
       -- what holds for the first n columns and for the next one holds for all of these
       with_next : (i : ℕ) → ((j : ℕ) (d : T) → j < n → is_below (key_at j d) (key_at i d) ≡ false) →
           ((d : T) → is_below (key_at next.place d) (key_at i d) ≡ false) → (j : ℕ) (d : T) → j < n + 1 →
           is_below (key_at j d) (key_at i d) ≡ false
       -- a column is one of the first n, or the next one
-      with_next i before after j d l = elim (cases_lt j n) [
-        | inl m ↦ before j d m
-        | inr m ↦ subst (λ o. is_below (key_at o d) (key_at i d) ≡ false) (let e : next.place ≡ j =
-            omega (arith, l, m, at) in e) (after d)
+      with_next i before after j d below = elim (cases_lt j n) [
+        | inl earlier ↦ before j d earlier
+        | inr later ↦ subst (λ o. is_below (key_at o d) (key_at i d) ≡ false) (let is_next : next.place ≡ j =
+            omega (arith, below, later, at) in is_next) (after d)
       ]
 
       -- the lows of all these columns are bytes
       all_bytes : (j : ℕ) (d : T) → j < n + 1 → AreBytes (cube (get_or columns j d))
       -- a column is one of the first n, or the next one
-      all_bytes j d l = elim (cases_lt j n) [
-        | inl m ↦ h.first.bytes j d m
-        | inr m ↦ subst (λ o. AreBytes (cube (get_or columns o d))) (let e : next.place ≡ j = omega (arith, l, m, at) in
-            e) (key d).bytes
+      all_bytes j d below = elim (cases_lt j n) [
+        | inl earlier ↦ is_best.first.bytes j d earlier
+        | inr later ↦ subst (λ o. AreBytes (cube (get_or columns o d)))
+            (let is_next : next.place ≡ j = omega (arith, below, later, at) in is_next) (key d).bytes
       ]
 
       -- if the next key isn't before the best one, the best column so far stays the best
       stays : is_below next.key.items best.key.items ≡ false → IsBest (n + 1) best
-      stays f = record {
+      stays not_before = record {
         first = record {
-          there = omega (arith, h.first.there);
-          first = with_next best.place h.first.first (λ d. ap₂ is_below (sym (key d).is) (sym (h.key d)) ∙ f);
+          there = omega (arith, is_best.first.there);
+          first = with_next best.place is_best.first.first
+              (λ d. ap₂ is_below (sym (key d).is) (sym (is_best.key d)) ∙ not_before);
           bytes = all_bytes;
         };
-        key = h.key;
+        key = is_best.key;
       }
 
       -- if the next key is before the best one, the next column is the best so far
       comes : is_below next.key.items best.key.items ≡ true → IsBest (n + 1) next
       -- no key of the first n is before the best one, which is no longer before the next one
-      comes t = record {
+      comes before = record {
         first = record {
           there = omega (arith, at);
           first = with_next next.place
-              (λ j d l. not_below_transitive (key_at next.place d) (key_at best.place d) (key_at j d)
+              (λ j d below. not_below_transitive (key_at next.place d) (key_at best.place d) (key_at j d)
               (below_one_way (key_at next.place d) (key_at best.place d)
-              (ap₂ is_below (sym (key d).is) (sym (h.key d)) ∙ t)) (h.first.first j d l))
+              (ap₂ is_below (sym (key d).is) (sym (is_best.key d)) ∙ before)) (is_best.first.first j d below))
               (λ d. below_irreflexive (key_at next.place d));
           bytes = all_bytes;
         };
@@ -272,10 +281,11 @@ module _ {T : Type 0} (cube : T → List Literal) (columns : List T) where
       pub best_next : (new : Placed) → new ≡ (if is_below next.key.items best.key.items then next else best) →
           IsBest (n + 1) new
       best_next new is = elim (cases_Bool (is_below next.key.items best.key.items)) [
-        | inl t ↦
-            subst (IsBest (n + 1)) (sym (is ∙ cond-true (is_below next.key.items best.key.items) next best t)) (comes t)
-        | inr f ↦ subst (IsBest (n + 1))
-            (sym (is ∙ cond-false (is_below next.key.items best.key.items) next best f)) (stays f)
+        | inl before ↦
+            subst (IsBest (n + 1)) (sym (is ∙ cond-true (is_below next.key.items best.key.items) next best before))
+            (comes before)
+        | inr not_before ↦ subst (IsBest (n + 1))
+            (sym (is ∙ cond-false (is_below next.key.items best.key.items) next best not_before)) (stays not_before)
       ]
 
 -- ---- so columns that stand by keys stand by lows
@@ -287,28 +297,29 @@ pub by_lows : {T : Type 0} (cube : T → List Literal) (g : Graph) (order variab
     All (λ r. IsKeyOf variables (cube r.column) r.key.items) before → IsPermutation before after →
     IsSortedBy is_key_below after → AreByLows cube g order (map (λ r. r.column) after)
 -- two columns that are sorted by their keys: these are the keys of their lows, so their lows are sorted too
-by_lows {T} cube g order variables few along before after keys p up =
+by_lows {T} cube g order variables few along before after keys permuted up =
     AllPairs-map (λ (a b : Ranked T).
     is_below (lows_along g order (low_in (cube b.column))) (lows_along g order (low_in (cube a.column))) ≡ false)
     (λ (c d : T). is_below (lows_along g order (low_in (cube d))) (lows_along g order (low_in (cube c))) ≡ false)
-    (λ (r : Ranked T). r.column) after (λ a b h. h)
-    (λ i j d l k.
-    let a = cube (get_or after i d).column in
-    let b = cube (get_or after j d).column in
-    let all = All-permutation (λ (r : Ranked T). IsKeyOf variables (cube r.column) r.key.items) before after p keys in
-    let key_a : (get_or after i d).key.items ≡ key_along g order (low_in a) =
-    (all i d (omega arith)).is ∙ key_is g order variables along a in
-    let key_b : (get_or after j d).key.items ≡ key_along g order (low_in b) =
-    (all j d k).is ∙ key_is g order variables along b in
-    let sorted : is_below (key_along g order (low_in b)) (key_along g order (low_in a)) ≡ false =
-    ap₂ is_below (sym key_b) (sym key_a) ∙ sorted_far is_key_below is_total after up i j d (omega arith) k in
-    lows_from_keys g order few b a (all j d k).bytes sorted)
+    (λ (r : Ranked T). r.column) after (λ a b not_below. not_below)
+    (λ i j d less inside.
+    let cube_a = cube (get_or after i d).column in
+    let cube_b = cube (get_or after j d).column in
+    let all = All-permutation
+    (λ (r : Ranked T). IsKeyOf variables (cube r.column) r.key.items) before after permuted keys in
+    let key_a : (get_or after i d).key.items ≡ key_along g order (low_in cube_a) =
+    (all i d (omega arith)).is ∙ key_is g order variables along cube_a in
+    let key_b : (get_or after j d).key.items ≡ key_along g order (low_in cube_b) =
+    (all j d inside).is ∙ key_is g order variables along cube_b in
+    let sorted : is_below (key_along g order (low_in cube_b)) (key_along g order (low_in cube_a)) ≡ false =
+    ap₂ is_below (sym key_b) (sym key_a) ∙ sorted_far is_key_below is_total after up i j d (omega arith) inside in
+    lows_from_keys g order few cube_b cube_a (all j d inside).bytes sorted)
 
 -- each process of an order is below how many there are
 pub within_order : (n : ℕ) (order : List ℕ) → IsPermutation (numbers_below n) order → All (λ p. p < n) order
-within_order n order p = All-permutation (λ p. p < n) (numbers_below n) order p
-    (λ k d l. numbers-Contains n (get_or (numbers_below n) k d) (Contains-get_or (numbers_below n) k d l))
+within_order n order permuted = All-permutation (λ p. p < n) (numbers_below n) order permuted
+    (λ k d below. numbers-Contains n (get_or (numbers_below n) k d) (Contains-get_or (numbers_below n) k d below))
 
 -- equal lists are permutations
 pub permutation_of_equal : {T : Type 0} (xs ys : List T) → xs ≡ ys → IsPermutation xs ys
-permutation_of_equal xs ys e = subst (IsPermutation xs) e (IsPermutation-refl xs)
+permutation_of_equal xs ys same = subst (IsPermutation xs) same (IsPermutation-refl xs)

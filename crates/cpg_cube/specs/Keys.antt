@@ -1,5 +1,6 @@
--- What columns are sorted by: the lows of their cubes along an order of processes. Each process gives the low of its fault
--- count, and then that of its condition's value if it has a condition. A low is given as a function of the variable.
+-- What columns are sorted by: the lows of their cubes along an order of processes. Each process gives the low of its
+-- fault count, and then that of its condition's value if it has a condition. A low is given as a function of the
+-- variable.
 use Rattle.std.specs.Prelude.{ℕ, suc, ◌+◌, ◌-◌, ◌*◌, ◌<◌, ◌≤◌, ◌≡◌, ◌≢◌, ◌==◌, nat_lt, if◌then◌else◌, false, List, []}
 use Rattle.std.specs.Prelude.{◌∷◌, ◌++◌, get_or, length, map, take, drop, Option, None, Some, All, AllPairs}
 use Rattle.std.specs.List.{flat_map}
@@ -51,8 +52,8 @@ variables_of g p = p ∷ variable_of_value (condition_of g p)
 abbrev pub variables_along : Graph → List ℕ → List ℕ
 variables_along g order = flat_map (variables_of g) order
 
--- What the code sorts by, as most lows are 0: only the others, each as one number with how many places are left at it. An
--- earlier place has more left, so it counts for more. There are at most 256 places, and a low is below 256.
+-- What the code sorts by, as most lows are 0: only the others, each as one number with how many places are left at it.
+-- An earlier place has more left, so it counts for more. There are at most 256 places, and a low is below 256.
 
 -- each number that isn't 0, as `left * 256` and the number, if `left` places are left at the first number of the list
 abbrev pub asked_from : ℕ → List ℕ → List ℕ
@@ -92,8 +93,8 @@ place_in number (more ∷ key) = if nat_lt more number then 0 else suc (place_in
 abbrev pub with_number : ℕ → List ℕ → List ℕ
 with_number number key = take (place_in number key) key ++ number ∷ drop (place_in number key) key
 
--- a key with a low more, at a variable at which `left` places are left; the key as it is if none are, since the variable is
--- none of those of the key
+-- a key with a low more, at a variable at which `left` places are left; the key as it is if none are, since the
+-- variable is none of those of the key
 abbrev pub with_any_asked : ℕ → ℕ → List ℕ → List ℕ
 with_any_asked left low key = if left == 0 then key else with_number (left * 256 + low) key
 
@@ -112,7 +113,7 @@ AreBytes cube = All (λ (l : Literal). l.low < 256) cube
 
 -- the key is that of a cube for a list of variables, and the cube's lows are bytes
 pub record IsKeyOf (variables : List ℕ) (cube : List Literal) (key : List ℕ) : Type 0 where
-  -- it is the key of the cube's lows
+  -- `key` is made of the cube's lows of the variables
   pub is : key ≡ key_by variables cube
   -- the cube's lows are bytes
   pub bytes : AreBytes cube
@@ -122,8 +123,8 @@ pub record IsFirstByKeys {T : Type 0} (cube : T → List Literal) (variables : L
     (at : ℕ) : Type 0 where
   -- the place is one of the first n
   pub there : at < n
-  -- no column's key comes before the key at the place
+  -- none of these columns has a key before that of the column at the place
   pub first : (j : ℕ) (d : T) → j < n →
       is_below (key_by variables (cube (get_or columns j d))) (key_by variables (cube (get_or columns at d))) ≡ false
-  -- the lows of all their literals are bytes
+  -- the lows of all literals of these columns are bytes
   pub bytes : (j : ℕ) (d : T) → j < n → AreBytes (cube (get_or columns j d))

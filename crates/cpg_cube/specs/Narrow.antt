@@ -6,7 +6,7 @@ use Rattle.cpg_cube.specs.declared.literal.Literal.{Literal}
 abbrev pub meet_literal : Literal → Literal → Literal
 meet_literal l m = record { variable = m.variable; low = max l.low m.low; high = min l.high m.high }
 
--- the cube with the literal met with the one on its variable, or put in its place if there is none
+-- the cube with the literal met with the one on its variable, or put in by variable if there is none
 abbrev pub narrowed_by : Literal → List Literal → List Literal
 narrowed_by l [] = l ∷ []
 narrowed_by l (m ∷ ms) = if nat_lt l.variable m.variable then l ∷ m ∷ ms else

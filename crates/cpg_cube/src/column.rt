@@ -8,9 +8,9 @@ use std::alloc::{AllocError, Global};
 /// A column of a row: a time of an item, and the scenarios that it is for.
 #[derive(Drop)]
 pub struct Column {
-    /// When it is, in time units of the graph file.
+    /// The time, in time units of the graph file.
     pub time: u64,
-    /// The scenarios that it is for.
+    /// The scenarios that the column is for: those that the cube matches.
     pub cube: Cube,
 }
 

@@ -99,8 +99,8 @@ pub fn is_above(literals: &[Literal], variable: u8) -> bool
     }
 }
 
-/// Meets the literal on the same variable with this one, or puts this one in its place if there is none. Returns how to undo
-/// that. At the one error, `OutOfMemory`, the literals are as before.
+/// Meets the literal on the same variable with this one, or puts this one in, by its variable, if there is none. Returns how
+/// to undo that. At the one error, `OutOfMemory`, the literals are as before.
 fn narrow(
     literals: &mut SmallVec<Literal, INLINE_LITERALS>,
     literal: Literal,
@@ -150,7 +150,7 @@ fn put(
     narrow(literals, literal)
 }
 
-/// Returns a copy of literals. The one error is `OutOfMemory`.
+/// Returns a copy of these literals. The one error is `OutOfMemory`.
 fn copied(
     alloc: Global,
     literals: &[Literal],

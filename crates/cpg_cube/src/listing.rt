@@ -14,7 +14,7 @@ use std::alloc::Global;
 pub struct Listing {
     /// The columns.
     pub columns: Vec<Column>,
-    /// Whether they are known to be sorted: if not, they may be or not.
+    /// Whether the columns are known to stand in that order; if not, they may still do.
     pub is_sorted: bool,
 }
 

@@ -30,16 +30,16 @@ pair-cycle = refl
 
 -- 119, one unit less, is no multiple of the round of 20
 pub pair-one_shorter : IsCycle pair pair_tables 119 → ⊥
-pair-one_shorter c = let whole : 119 ≡ c.rounds * 20 = c.whole in absurd (omega (arith, whole))
+pair-one_shorter cycle = let whole : 119 ≡ cycle.rounds * 20 = cycle.whole in absurd (omega (arith, whole))
 
 -- 100, one round less, is before the deadline 105
 pub pair-one_round_shorter : IsCycle pair pair_tables 100 → ⊥
-pair-one_round_shorter c = let deadline : 105 ≤ 100 = c.deadline in absurd (omega (arith, deadline))
+pair-one_round_shorter cycle = let deadline : 105 ≤ 100 = cycle.deadline in absurd (omega (arith, deadline))
 
 -- after one unit less the slots are elsewhere: that of N1 starts at 0, and none of N1 at 119
 pub pair-slots_elsewhere : HasSlotsAt pair 0 119 → ⊥
-pair-slots_elsewhere h =
-    let there : IsOccurrence pair 0 119 = h.later 0 (0, refl) in
+pair-slots_elsewhere has_slots =
+    let there : IsOccurrence pair 0 119 = has_slots.later 0 (0, refl) in
     let at : 119 ≡ there.0 * 20 + 0 = there.1 in absurd (omega (arith, at))
 
 -- A has a fault, and each execution takes as long as planned; N1 is asked until it is done, and then N2
@@ -60,8 +60,8 @@ pair-acts = refl
 
 -- after one round less B still runs: it ends at 105
 pub pair-not_over_by_100 : IsOverBy pair pair_world.scenario pair_play 100 → ⊥
-pair-not_over_by_100 o =
-    let end : 105 ≤ 100 = o.starts 1 (act 90 1 1) (omega arith) (0, omega arith, refl) (omega arith) in
+pair-not_over_by_100 over =
+    let end : 105 ≤ 100 = over.starts 1 (act 90 1 1) (omega arith) (0, omega arith, refl) (omega arith) in
     absurd (omega (arith, end))
 
 -- a deadline of 120, itself a multiple of the round, is the least cycle
@@ -102,7 +102,7 @@ late-cycle = refl
 
 -- by the deadline alone that frame would be in the next cycle
 pub late-at_the_deadline : IsCycle late_broadcast late_tables 40 → ⊥
-late-at_the_deadline c = let arrivals : 50 ≤ 40 = c.arrivals in absurd (omega (arith, arrivals))
+late-at_the_deadline cycle = let arrivals : 50 ≤ 40 = cycle.arrivals in absurd (omega (arith, arrivals))
 
 -- what happens in a play in which A says that B follows, so that its value comes late
 abbrev pub late_world : World
@@ -118,21 +118,21 @@ late-acts = refl
 
 -- the frame of A's value isn't there by 40, so the play isn't over then
 pub late-not_over_by_40 : IsOverBy late_broadcast late_world.scenario late_play 40 → ⊥
-late-not_over_by_40 o =
-    let arrival : 50 ≤ 40 = o.sends 0 (act 40 4 0) (omega arith) (2, omega arith, refl) (omega arith) in
+late-not_over_by_40 over =
+    let arrival : 50 ≤ 40 = over.sends 0 (act 40 4 0) (omega arith) (2, omega arith, refl) (omega arith) in
     absurd (omega (arith, arrival))
 
 -- a cycle that begins at 40 starts A before the frame of the one before is there
 pub late-not_apart_at_40 : AreApart late_broadcast late_world.scenario late_play late_play 0 40 → ⊥
-late-not_apart_at_40 a =
-    let wrong : 50 ≤ 40 = a.frames 0 0 (act 40 4 0) (act 0 0 0) (omega arith) (2, omega arith, refl)
+late-not_apart_at_40 apart =
+    let wrong : 50 ≤ 40 = apart.frames 0 0 (act 40 4 0) (act 0 0 0) (omega arith) (2, omega arith, refl)
     (0, omega arith, refl) (omega arith) in
     absurd (omega (arith, wrong))
 
 -- no cycle is apart from itself
 pub late-not_apart_from_itself : AreApart late_broadcast late_world.scenario late_play late_play 60 60 → ⊥
-late-not_apart_from_itself a =
-    let wrong : 110 ≤ 60 = a.frames 0 0 (act 40 4 0) (act 0 0 0) (omega arith) (2, omega arith, refl)
+late-not_apart_from_itself apart =
+    let wrong : 110 ≤ 60 = apart.frames 0 0 (act 40 4 0) (act 0 0 0) (omega arith) (2, omega arith, refl)
     (0, omega arith, refl) (omega arith) in
     absurd (omega (arith, wrong))
 
@@ -158,7 +158,7 @@ alone-cycle = refl
 
 -- 6 is before the deadline 7
 pub alone-one_shorter : IsCycle alone alone_tables 6 → ⊥
-alone-one_shorter c = let deadline : 7 ≤ 6 = c.deadline in absurd (omega (arith, deadline))
+alone-one_shorter cycle = let deadline : 7 ≤ 6 = cycle.deadline in absurd (omega (arith, deadline))
 
 -- the bus and the deadline of the cruise controller, by any tables whose frames arrive by then
 abbrev pub three_slots : List Slot
@@ -168,10 +168,11 @@ three_slots = record { node = 0; length = 10; bytes = 16 } ∷ record { node = 1
 -- the least cycle of the cruise controller is 2010, the first multiple of its round of 30 from 2000 on
 pub controller-cycle : (g : Graph) (tables : List NodeTable) → last_arrival tables ≤ 2000 →
     least_cycle (record g { deadline = 2000; slots = three_slots }) tables ≡ 2010
-controller-cycle g tables h = let bound : max 2000 (last_arrival tables) ≡ 2000 = omega (arith, h) in
+controller-cycle g tables early = let bound : max 2000 (last_arrival tables) ≡ 2000 = omega (arith, early) in
     ap (λ n. div_ceil (max n 1) 30 * 30) bound
 
 -- one round less is before the deadline
 pub controller-one_round_shorter : (g : Graph) (tables : List NodeTable) →
     IsCycle (record g { deadline = 2000; slots = three_slots }) tables 1980 → ⊥
-controller-one_round_shorter g tables c = let deadline : 2000 ≤ 1980 = c.deadline in absurd (omega (arith, deadline))
+controller-one_round_shorter g tables cycle = let deadline : 2000 ≤ 1980 = cycle.deadline in
+    absurd (omega (arith, deadline))

@@ -32,11 +32,11 @@ use Rattle.cpg_examples.proofs.CycleExamples.{late_play}
 
 -- N1 starts A at 0, so that a turn at 0 may not be left out
 pub start-is_not_quiet : IsQuiet (initial_dispatcher (own_table pair 0 (table_at pair_tables 0))) 0 → ⊥
-start-is_not_quiet q = let one : 1 ≡ 0 = ap length q.acts in absurd (omega (arith, one))
+start-is_not_quiet quiet = let one : 1 ≡ 0 = ap length quiet.acts in absurd (omega (arith, one))
 
 -- the turn does something
 pub start-is_done : acts_of_turn (initial_dispatcher (own_table pair 0 (table_at pair_tables 0))) 0 [] [] ≡ [] → ⊥
-start-is_done e = let one : 1 ≡ 0 = ap length e in absurd (omega (arith, one))
+start-is_done nothing = let one : 1 ≡ 0 = ap length nothing in absurd (omega (arith, one))
 
 -- N1 after its turn at 0: A has run since then, and has reported that it ends without faults
 abbrev pub reported : Dispatcher
@@ -47,11 +47,11 @@ reported = record (initial_dispatcher (own_table pair 0 (table_at pair_tables 0)
 
 -- at 35 the report is due, so a turn then isn't quiet and may not be left out
 pub report-is_not_quiet : IsQuiet reported 35 → ⊥
-report-is_not_quiet q = let one : 1 ≡ 0 = ap length q.ends in absurd (omega (arith, one))
+report-is_not_quiet quiet = let one : 1 ≡ 0 = ap length quiet.ends in absurd (omega (arith, one))
 
 -- a turn at which the report is taken leaves the execution ended
 pub report-is_taken : turn reported 35 [] [] ≡ record reported { last = Some 35 } → ⊥
-report-is_taken e = true≢false (sym (ap (λ (d : Dispatcher). is_some (get_or d.running 0 None)) e))
+report-is_taken same = true≢false (sym (ap (λ (d : Dispatcher). is_some (get_or d.running 0 None)) same))
 
 -- a turn before the report is due is quiet
 pub between-is_quiet : IsQuiet reported 34
@@ -68,7 +68,7 @@ overtold-awaited = (3, omega arith, refl)
 
 -- but it is not among the candidates
 pub overtold-no_candidate : Contains (candidates overtold) 7 → ⊥
-overtold-no_candidate c = true≢false (from_any_false (λ t. t == 7) (candidates overtold) 7 refl c)
+overtold-no_candidate listed = true≢false (from_any_false (λ t. t == 7) (candidates overtold) 7 refl listed)
 
 -- the table of N2 in the pair
 abbrev pub second : NodeTable
@@ -147,9 +147,9 @@ frozen_world =
     lengths : (p : ℕ) → p < 2 →
         (1 ≤ get_or pair_world.lengths p 0) ×
         (get_or pair_world.lengths p 0 ≤ duration frozen_pair p (fault_of pair_world.scenario p))
-    lengths zero l = (omega arith, omega arith)
-    lengths (suc zero) l = (omega arith, omega arith)
-    lengths (suc (suc p)) l = absurd (omega arith)
+    lengths zero below = (omega arith, omega arith)
+    lengths (suc zero) below = (omega arith, omega arith)
+    lengths (suc (suc p)) below = absurd (omega arith)
 
 -- the stream of a node gives what is due in the play
 pub frozen-gives : GivesWhatIsDue frozen_pair tables pair_world pair_turns 1 105
@@ -177,7 +177,7 @@ silent = record { item = 0; column = 0; value = false }
 pub hollow-stays : list_any is_contradicted (hear_frame second hollow silent) ≡
     list_any (λ (l : Literal). is_contradicted (range_of (hear_frame second hollow silent) l.variable))
     (frame_literals second silent) → ⊥
-hollow-stays e = true≢false e
+hollow-stays same = true≢false same
 
 -- N1 has sent the value of A, and knows it; at first it doesn't
 pub sent-known : range_of (dispatcher_at late_play 0).heard 128 ≡ only 1
@@ -185,4 +185,4 @@ sent-known = refl
 
 -- before N1 has sent the value, it doesn't know it
 pub unsent-unknown : range_of (dispatcher_at (initial_cluster late_broadcast late_tables) 0).heard 128 ≡ only 1 → ⊥
-unsent-unknown e = let low : 0 ≡ 1 = ap (λ (r : Range). r.low) e in absurd (omega (arith, low))
+unsent-unknown same = let low : 0 ≡ 1 = ap (λ (r : Range). r.low) same in absurd (omega (arith, low))

@@ -35,17 +35,17 @@ AllHave ranges = All HasNumber ranges
 
 -- the value that an end tells leaves no range empty: it has the value alone
 value_has : (heard : List Range) (o : Option ℕ) (value : Bool) → AllHave heard → AllHave (know_value heard o value)
-value_has heard None value h = h
-value_has heard (Some c) value h = All-set HasNumber heard (value_variable c)
-    (record { low = number_of_value value; high = number_of_value value }) (omega arith) h
+value_has heard None value have = have
+value_has heard (Some c) value have = All-set HasNumber heard (value_variable c)
+    (record { low = number_of_value value; high = number_of_value value }) (omega arith) have
 
 -- several ends leave no range empty; by induction on `es`
 ends_have : (table : OwnTable) (es : List Ended) (heard : List Range) → AllHave heard →
     AllHave (fold (hear_end table) heard es)
-ends_have table [] heard h = h
-ends_have table (e ∷ es) heard h = ends_have table es (hear_end table heard e)
+ends_have table [] heard have = have
+ends_have table (e ∷ es) heard have = ends_have table es (hear_end table heard e)
     (value_has _ (own_of table e.process).condition e.value
-    (All-set HasNumber heard e.process (record { low = e.faults; high = e.faults }) (omega arith) h))
+    (All-set HasNumber heard e.process (record { low = e.faults; high = e.faults }) (omega arith) have))
 
 -- ---- turns, in which a live node is told nothing
 
@@ -55,44 +55,49 @@ Has p = AllHave p.dispatcher.heard
 
 -- if no range that `p` holds is empty, none is after the turn of the instant `o`, if there is one
 turn_has : (p : NodeProgress) (o : Option ℕ) → Has p → Has (turn_if p o)
-turn_has p None h = h
-turn_has p (Some time) h = ends_have p.dispatcher.table (due_reports p.dispatcher time) p.dispatcher.heard h
+turn_has p None has = has
+turn_has p (Some time) has = ends_have p.dispatcher.table (due_reports p.dispatcher time) p.dispatcher.heard has
 
 -- up to `count` turns, in which the node hears no frames, leave no range empty; by induction on `count`
 turns_have : (count limit : ℕ) (p : NodeProgress) → Has p → Has (turns_below count limit p)
 unfolding turns_below
-turns_have zero limit p h = h
-turns_have (suc count) limit p h =
-    turns_have count limit (turn_below limit p) (turn_has p (instant_below limit (next p.dispatcher)) h)
+turns_have zero limit p has = has
+turns_have (suc count) limit p has =
+    turns_have count limit (turn_below limit p) (turn_has p (instant_below limit (next p.dispatcher)) has)
 
 -- ---- records
 
 -- a frame that isn't strange leaves no range empty: that it would is the last of the tests of `is_strange`
 fine : (d : Dispatcher) (time : ℕ) (f : Frame) → is_strange d time f ≡ false → AllHave (hear_frame d.table d.heard f)
-fine d time f e =
+fine d time f fails =
     let unknown : Bool = not (list_any (λ (row : Row). row.item == f.item) d.table.hears) in
     let none : Bool = not (nat_lt f.column (length (columns_in d.table.hears f.item))) in
     let other : Bool = not ((get_or (columns_in d.table.hears f.item) f.column no_column).time == time) in
     let heard : List Range = hear_frame d.table d.heard f in
-    let q : list_any is_contradicted heard ≡ false =
-    (or_parts (unknown || none || other) (list_any is_contradicted heard) e).1 in
-    λ k d l. ltb-false (get_or heard k d).high (get_or heard k d).low
-    (from_any_false is_contradicted heard (get_or heard k d) q (Contains-get_or heard k d l))
+    let not_empty : list_any is_contradicted heard ≡ false =
+    (or_parts (unknown || none || other) (list_any is_contradicted heard) fails).1 in
+    λ k d within. ltb-false (get_or heard k d).high (get_or heard k d).low
+    (from_any_false is_contradicted heard (get_or heard k d) not_empty (Contains-get_or heard k d within))
 
 -- A step leaves no range empty. By the event: a frame is heard only if it isn't strange, an end is kept until its
 -- planned time, and a close takes the turns up to it.
 step_has : (time : ℕ) (event : Event) (p : NodeProgress) → Has p → Has (step time event p).progress
-step_has time (Arrival f) p h =
-    let q : NodeProgress = turned time p in
-    cond_both (is_strange q.dispatcher time f) (lawless q StrangeFrame) (lawful
-    (record q { dispatcher = record q.dispatcher { heard = hear_frame q.dispatcher.table q.dispatcher.heard f } }))
-    (λ (s : Step). Has s.progress) (λ e. turns_have time time p h) (λ e. fine q.dispatcher time f e)
-step_has time (Ending process faults value) p h =
-    let q : NodeProgress = turned time p in
-    let e : Ended = record { process = process; faults = faults; value = value } in
-    let have : Has q = turns_have time time p h in
-    cond_both (may_end q.dispatcher time e) _ (lawless q FalseEnd) (λ (s : Step). Has s.progress) (λ _. have) (λ _. have)
-step_has time Close p h = turns_have (time + 1) (time + 1) p h
+step_has time (Arrival f) p has =
+    let turned_first : NodeProgress = turned time p in
+    cond_both (is_strange turned_first.dispatcher time f) (lawless turned_first StrangeFrame) (lawful
+    (record turned_first {
+      dispatcher = record turned_first.dispatcher
+          { heard = hear_frame turned_first.dispatcher.table turned_first.dispatcher.heard f };
+    }))
+    (λ (s : Step). Has s.progress) (λ e. turns_have time time p has)
+    (λ fails. fine turned_first.dispatcher time f fails)
+step_has time (Ending process faults value) p has =
+    let turned_first : NodeProgress = turned time p in
+    let ended : Ended = record { process = process; faults = faults; value = value } in
+    let have : Has turned_first = turns_have time time p has in
+    cond_both (may_end turned_first.dispatcher time ended) _ (lawless turned_first FalseEnd)
+    (λ (s : Step). Has s.progress) (λ _. have) (λ _. have)
+step_has time Close p has = turns_have (time + 1) (time + 1) p has
 
 -- no range of the node of a stream is empty
 abbrev Holds : LiveState → Type 0
@@ -100,36 +105,38 @@ Holds s = Has s.progress
 
 -- an event that is judged by the state of a stream leaves no range empty: it is refused, or it is a step
 judged_holds : (s : LiveState) (time : ℕ) (event : Option Event) → Holds s → Holds (judged s time event)
-judged_holds s time None h = h
-judged_holds s time (Some event) h =
-    cond_both (nat_lt time s.time) (refused s Order) (stepped s time event (step time event s.progress)) Holds (λ _. h)
-    (λ _. settles (step time event s.progress) (step_has time event s.progress h))
+judged_holds s time None holds = holds
+judged_holds s time (Some event) holds =
+    cond_both (nat_lt time s.time) (refused s Order)
+    (stepped s time event (step time event s.progress)) Holds (λ _. holds)
+    (λ _. settles (step time event s.progress) (step_has time event s.progress holds))
   where
     -- what a step answers, and by whether it refuses the record
     settles : (q : Step) → Has q.progress → Holds (stepped s time event q)
-    settles q h = go q.fault
+    settles q has = go q.fault
       where
         -- a record that is refused changes no range
         go : (o : Option Defect) → Holds (settled (record s { progress = q.progress }) time event o)
-        go None = h
-        go (Some defect) = h
+        go None = has
+        go (Some defect) = has
 
 -- a record leaves no range empty: after a lawless record or a close nothing is taken, and any other record is judged
 record_holds : (s : LiveState) (bytes : List ℕ) → Holds s → Holds (take_record s bytes)
-record_holds s bytes h =
-    cond_both (is_some s.lawless) s _ Holds (λ _. h) (λ _. cond_both s.closed (refused s Length) _ Holds (λ _. h)
-    (λ _. judged_holds s (record_of bytes).time (event_of s.progress.dispatcher.table (record_of bytes)) h))
+record_holds s bytes holds =
+    cond_both (is_some s.lawless) s _ Holds (λ _. holds)
+    (λ _. cond_both s.closed (refused s Length) _ Holds (λ _. holds)
+    (λ _. judged_holds s (record_of bytes).time (event_of s.progress.dispatcher.table (record_of bytes)) holds))
 
 -- records that are taken one after another leave no range empty; by induction on them
 records_hold : (records : List (List ℕ)) (s : LiveState) → Holds s → Holds (fold take_record s records)
-records_hold [] s h = h
-records_hold (r ∷ rs) s h = records_hold rs (take_record s r) (record_holds s r h)
+records_hold [] s holds = holds
+records_hold (r ∷ rs) s holds = records_hold rs (take_record s r) (record_holds s r holds)
 
 -- bytes that are no whole record change no range
 rest_holds : (s : LiveState) (rest : List ℕ) → Holds s → Holds (with_rest s rest)
-rest_holds s rest h =
-    cond_both (is_some s.lawless) s _ Holds (λ _. h) (λ _. cond_both (s.closed && nat_lt 0 (length rest))
-    (refused s Length) (record s { rest = rest }) Holds (λ _. h) (λ _. h))
+rest_holds s rest holds =
+    cond_both (is_some s.lawless) s _ Holds (λ _. holds) (λ _. cond_both (s.closed && nat_lt 0 (length rest))
+    (refused s Length) (record s { rest = rest }) Holds (λ _. holds) (λ _. holds))
 
 -- No range that a node holds after any bytes is empty. At the start each range has all numbers, and the records and the
 -- rest of the bytes leave none empty.
@@ -145,15 +152,15 @@ no_range_is_empty table bytes =
 untold : (v : ℕ) (ls : List Literal) (heard : List Range) → ((l : Literal) → Contains ls l → l.variable ≢ v) →
     range_of (cut_all heard ls) v ≡ range_of heard v
 untold v [] heard ne = refl
-untold v (l ∷ ls) heard ne = untold v ls (cut heard l) (λ m c. ne m (Contains-rest l ls m c))
+untold v (l ∷ ls) heard ne = untold v ls (cut heard l) (λ m there. ne m (Contains-rest l ls m there))
     ∙ get_or-set_other heard l.variable v (cut_range (range_of heard l.variable) l) (record { low = 0; high = 0 })
     (λ e. ne l (Contains-first l ls) (sym e))
 
 -- if `a` implies `b`, and `b` implies `a`, they are equal
 same_answer : (a b : Bool) → (a ≡ true → b ≡ true) → (b ≡ true → a ≡ true) → a ≡ b
-same_answer true b f e = sym (f refl)
-same_answer false true f e = e refl
-same_answer false false f e = refl
+same_answer true b implies e = sym (implies refl)
+same_answer false true implies e = e refl
+same_answer false false implies e = refl
 
 -- given ranges of which none is empty, and the literals of a frame
 module _ (heard : List Range) (ls : List Literal) (have : AllHave heard) where
@@ -165,27 +172,28 @@ module _ (heard : List Range) (ls : List Literal) (have : AllHave heard) where
   -- range, which wasn't empty.
   at_told : list_any is_contradicted left ≡ true →
       list_any (λ (l : Literal). is_contradicted (range_of left l.variable)) ls ≡ true
-  at_told e =
-      let q = list_any_parts is_contradicted left e in
-      let v : ℕ = q.1.0 in
-      let empty : is_contradicted (range_of left v) ≡ true =
-      ap is_contradicted (get_or_default left v (record { low = 0; high = 0 }) q.0 q.1.1 ∙ q.1.2) ∙ q.2 in
-      elim (cases_Bool (list_any (λ (l : Literal). l.variable == v) ls)) [
-        | inl told ↦ let l = list_any_parts (λ (l : Literal). l.variable == v) ls told in
-            list_any_true (λ (l : Literal). is_contradicted (range_of left l.variable)) ls l.0 l.1
-            (ap (λ v. is_contradicted (range_of left v)) (eqb-true l.0.variable v l.2) ∙ empty)
+  at_told holds =
+      let found = list_any_parts is_contradicted left holds in
+      let variable : ℕ = found.1.0 in
+      let empty : is_contradicted (range_of left variable) ≡ true =
+      ap is_contradicted (get_or_default left variable (record { low = 0; high = 0 }) found.0 found.1.1
+      ∙ found.1.2) ∙ found.2 in
+      elim (cases_Bool (list_any (λ (l : Literal). l.variable == variable) ls)) [
+        | inl told ↦ let literal = list_any_parts (λ (l : Literal). l.variable == variable) ls told in
+            list_any_true (λ (l : Literal). is_contradicted (range_of left l.variable)) ls literal.0 literal.1
+            (ap (λ v. is_contradicted (range_of left v)) (eqb-true literal.0.variable variable literal.2) ∙ empty)
         | inr none ↦
-            let same = untold v ls heard (λ l c is. true≢false (sym (eq-eqb l.variable v is)
-            ∙ from_any_false (λ (l : Literal). l.variable == v) ls l none c)) in
-            absurd (not_empty v (sym (ap is_contradicted same) ∙ empty))
+            let same = untold variable ls heard (λ l there is. true≢false (sym (eq-eqb l.variable variable is)
+            ∙ from_any_false (λ (l : Literal). l.variable == variable) ls l none there)) in
+            absurd (not_empty variable (sym (ap is_contradicted same) ∙ empty))
       ]
     where
       -- no range was empty before
       not_empty : (v : ℕ) → is_contradicted (range_of heard v) ≡ true → ⊥
-      not_empty v e =
-          let less = ltb-true (range_of heard v).high (range_of heard v).low e in
+      not_empty v holds =
+          let less = ltb-true (range_of heard v).high (range_of heard v).low holds in
           elim (cases_lt v (length heard)) [
-            | inl l ↦ let fine = have v (record { low = 0; high = 0 }) l in omega (arith, less, fine)
+            | inl within ↦ let fine = have v (record { low = 0; high = 0 }) within in omega (arith, less, fine)
             | inr past ↦ let none = get_or_past heard v (record { low = 0; high = 0 }) past in
                 omega (arith, less, ap (λ (r : Range). r.low) none)
           ]
@@ -193,14 +201,15 @@ module _ (heard : List Range) (ls : List Literal) (have : AllHave heard) where
   -- a range that is empty at the variable of a literal is one of all ranges: past their end none is empty
   at_all : list_any (λ (l : Literal). is_contradicted (range_of left l.variable)) ls ≡ true →
       list_any is_contradicted left ≡ true
-  at_all e =
-      let q = list_any_parts (λ (l : Literal). is_contradicted (range_of left l.variable)) ls e in
-      let v : ℕ = q.0.variable in
-      elim (cases_lt v (length left)) [
-        | inl l ↦ list_any_true is_contradicted left (range_of left v)
-            (Contains-get_or left v (record { low = 0; high = 0 }) l) q.2
+  at_all holds =
+      let found = list_any_parts (λ (l : Literal). is_contradicted (range_of left l.variable)) ls holds in
+      let variable : ℕ = found.0.variable in
+      elim (cases_lt variable (length left)) [
+        | inl within ↦ list_any_true is_contradicted left (range_of left variable)
+            (Contains-get_or left variable (record { low = 0; high = 0 }) within) found.2
         | inr past ↦
-            absurd (true≢false (sym q.2 ∙ ap is_contradicted (get_or_past left v (record { low = 0; high = 0 }) past)))
+            absurd (true≢false (sym found.2
+            ∙ ap is_contradicted (get_or_past left variable (record { low = 0; high = 0 }) past)))
       ]
 
 -- a frame leaves an empty range if and only if it does so at a variable of which it tells

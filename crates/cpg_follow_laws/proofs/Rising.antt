@@ -31,25 +31,25 @@ moment (Some last) = last
 -- events `es` that rise from `later` on rise from `from` on too, which is at most `later`
 rise_weaker : (from later to : ℕ) (es : List (ℕ × Event)) → from ≤ later → RiseWithin later to es →
     RiseWithin from to es
-rise_weaker from later to [] le h = omega (arith, le, h)
-rise_weaker from later to (e ∷ es) le h = (omega (arith, le, h.0), h.1, h.2)
+rise_weaker from later to [] le rise = omega (arith, le, rise)
+rise_weaker from later to (e ∷ es) le rise = (omega (arith, le, rise.0), rise.1, rise.2)
 
 -- if records `xs` rise from `from` to `middle`, and `ys` from there to `to`, they rise one after the other
 rise_join : (xs ys : List (ℕ × Event)) (from middle to : ℕ) → RiseWithin from middle xs → RiseWithin middle to ys →
     RiseWithin from to (xs ++ ys)
-rise_join [] ys from middle to h k = rise_weaker from middle to ys h k
-rise_join (x ∷ xs) ys from middle to h k = (h.0, h.1, rise_join xs ys x.0 middle to h.2 k)
+rise_join [] ys from middle to at_most rise = rise_weaker from middle to ys at_most rise
+rise_join (x ∷ xs) ys from middle to rise k = (rise.0, rise.1, rise_join xs ys x.0 middle to rise.2 k)
 
 -- reports that a node may take one after another are in order of time up to its next instant, which they don't change
 reports_within : (time : ℕ) (es : List (ℕ × Ended)) (d : Dispatcher) (from : ℕ) → next d ≡ Some time → from ≤ time →
     MayReport d from es →
     RiseWithin from time (map end_event es)
-reports_within time [] d from n le m = le
-reports_within time (e ∷ es) d from n le m = (
+reports_within time [] d from comes le m = le
+reports_within time (e ∷ es) d from comes le m = (
   m.0,
   refl,
-  reports_within time es (finished d e.1) e.0 (next_same d e.1 ∙ n)
-      (subst (λ o. IfSome o (λ n. e.0 ≤ n)) n m.1.before) m.2,
+  reports_within time es (finished d e.1) e.0 (next_same d e.1 ∙ comes)
+      (subst (λ o. IfSome o (λ n. e.0 ≤ n)) comes m.1.before) m.2,
 )
 
 -- the records of frames `fs` that arrive at a time are all at that time; by induction on `fs`
@@ -59,49 +59,50 @@ frames_within time (f ∷ fs) = (omega arith, refl, frames_within time fs)
 
 -- what comes after the last turn isn't before it
 after_moment : (last : Option ℕ) (time : ℕ) → is_after last time ≡ true → moment last ≤ time
-after_moment None time h = omega arith
-after_moment (Some last) time h = omega (arith, floor_after (Some last) time h)
+after_moment None time holds = omega arith
+after_moment (Some last) time holds = omega (arith, floor_after (Some last) time holds)
 
 -- if the instant after the last turn is at most the close plus 1, the last turn isn't after the close
 by_moment : (last : Option ℕ) (close : ℕ) → after_last last ≤ close + 1 → moment last ≤ close
-by_moment None close h = omega arith
-by_moment (Some last) close h = omega (arith, h)
+by_moment None close at_most = omega arith
+by_moment (Some last) close at_most = omega (arith, at_most)
 
 -- given a node of a play
-module _ {g : Graph} {tables : List NodeTable} {w : World} (k : Played g tables w) (node : ℕ)
-    (l : node < length g.nodes) where
+module _ {g : Graph} {tables : List NodeTable} {w : World} (played : Played g tables w) (node : ℕ)
+    (within : node < length g.nodes) where
   -- the records of a turn are in order of time, from the last turn to this one: first the reports, then the frames
   turn_within : (c : Cluster) → Reached g tables w c → (time : ℕ) → next (dispatcher_at c node) ≡ Some time →
       RiseWithin (moment (dispatcher_at c node).last) time (records_at g w c node time)
-  turn_within c r time e =
-      let d : Dispatcher = dispatcher_at c node in
-      let reports : List (ℕ × Ended) = reports_now g w d time in
-      let may = tells_by_time reports d (moment d.last) (may_finish k c r node l time e)
-      (reports_apart k c r node l time) (λ q m. after_moment d.last q.0 m.later) in
-      rise_join (map end_event (by_time reports)) (map (frame_event time) _) (moment d.last) time time
-      (reports_within time (by_time reports) d (moment d.last) e
-      (after_moment d.last time (next_is d time e).after) may) (frames_within time _)
+  turn_within c reached time comes =
+      let dispatcher : Dispatcher = dispatcher_at c node in
+      let reports : List (ℕ × Ended) = reports_now g w dispatcher time in
+      let may = tells_by_time reports dispatcher (moment dispatcher.last)
+      (may_finish played c reached node within time comes)
+      (reports_apart played c reached node within time) (λ q m. after_moment dispatcher.last q.0 m.later) in
+      rise_join (map end_event (by_time reports)) (map (frame_event time) _) (moment dispatcher.last) time time
+      (reports_within time (by_time reports) dispatcher (moment dispatcher.last) comes
+      (after_moment dispatcher.last time (next_is dispatcher time comes).after) may) (frames_within time _)
 
   -- The records of a play from a state on are in order of time, from the node's last turn to the close. By induction on
   -- the turns: those of the first turn, if it is the node's own, and from there on those of the others.
   rise_play : (turns : List ℕ) (c : Cluster) → Reached g tables w c → (close : ℕ) →
       moment (dispatcher_at (play g w c turns) node).last ≤ close →
       RiseWithin (moment (dispatcher_at c node).last) close (records_in g w c node turns)
-  rise_play [] c r close le = le
-  rise_play (a ∷ rest) c r close le = elim (cases_eq a node) [
+  rise_play [] c reached close le = le
+  rise_play (a ∷ rest) c reached close le = elim (cases_eq a node) [
     | inl is ↦ subst
         (λ es. RiseWithin (moment (dispatcher_at c node).last) close (es ++ records_in g w (step g w c a) node rest))
         (sym (cond-true (a == node) _ _ (eq-eqb a node is)))
         (subst (λ a. RiseWithin (moment (dispatcher_at c node).last) close (records_by g w c a (answer g c a)
         (next (dispatcher_at c a)) ++ records_in g w (step g w c a) node rest)) (sym is)
         (here (answer g c node) (next (dispatcher_at c node)) refl
-        (rise_play rest (step g w c node) (reached_step k c r node) close
+        (rise_play rest (step g w c node) (reached_step played c reached node) close
         (subst (λ a. moment (dispatcher_at (play g w (step g w c a) rest) node).last ≤ close) is le))))
     | inr ne ↦ subst
         (λ es. RiseWithin (moment (dispatcher_at c node).last) close (es ++ records_in g w (step g w c a) node rest))
         (sym (cond-false (a == node) _ _ (ne_eqb a node ne)))
         (other (answer g c a) (next (dispatcher_at c a)) (λ s. ne (sym s))
-        (rise_play rest (step g w c a) (reached_step k c r a) close le))
+        (rise_play rest (step g w c a) (reached_step played c reached a) close le))
   ]
     where
       -- a dispatcher for places without a node
@@ -115,33 +116,34 @@ module _ {g : Graph} {tables : List NodeTable} {w : World} (k : Played g tables 
           (records_in g w (step_by g w c node ans o) node rest) →
           RiseWithin (moment (dispatcher_at c node).last) close
           (records_by g w c node ans o ++ records_in g w (step_by g w c node ans o) node rest)
-      here Took (Some time) e h =
+      here Took (Some time) is rise =
           let last : (dispatcher_at (take_turn g w c node time) node).last ≡ Some time =
-          ap (λ (d : Dispatcher). d.last) (get_or-set_same c.nodes node _ nobody (omega (arith, r.nodes, l))) in
+          ap (λ (d : Dispatcher). d.last)
+          (get_or-set_same c.nodes node _ nobody (omega (arith, reached.nodes, within))) in
           rise_join (records_at g w c node time) (records_in g w (take_turn g w c node time) node rest)
-          (moment (dispatcher_at c node).last) time close (turn_within c r time e)
-          (subst (λ o. RiseWithin (moment o) close (records_in g w (take_turn g w c node time) node rest)) last h)
-      here Took None e h = h
-      here (Waits b) o e h = h
-      here IsDone o e h = h
+          (moment (dispatcher_at c node).last) time close (turn_within c reached time is)
+          (subst (λ o. RiseWithin (moment o) close (records_in g w (take_turn g w c node time) node rest)) last rise)
+      here Took None is rise = rise
+      here (Waits b) o is rise = rise
+      here IsDone o is rise = rise
 
       -- the turn of another node, a, adds no record of this one
       other : (ans : Answer) (o : Option ℕ) → node ≢ a →
           RiseWithin (moment (dispatcher_at (step_by g w c a ans o) node).last) close
           (records_in g w (step_by g w c a ans o) node rest) →
           RiseWithin (moment (dispatcher_at c node).last) close (records_in g w (step_by g w c a ans o) node rest)
-      other Took (Some time) ne h = subst
+      other Took (Some time) ne rise = subst
           (λ (d : Dispatcher). RiseWithin (moment d.last) close (records_in g w (take_turn g w c a time) node rest))
-          (get_or-set_other c.nodes a node _ nobody ne) h
-      other Took None ne h = h
-      other (Waits b) o ne h = h
-      other IsDone o ne h = h
+          (get_or-set_other c.nodes a node _ nobody ne) rise
+      other Took None ne rise = rise
+      other (Waits b) o ne rise = rise
+      other IsDone o ne rise = rise
 
 -- the records of a node in a play are in order of time: those from the first state on, in which there was no turn
 pub records_rise : RecordsRise
-records_rise g tables f h v w turns node close is l late =
-    let k = played_of g tables f h v w is in
-    let c : Cluster = initial_cluster g tables in
-    rise_weaker 0 (moment (dispatcher_at c node).last) close (records_in g w c node turns) (omega arith)
-    (rise_play k node l turns c (reached_open k) close
-    (by_moment (dispatcher_at (play g w c turns) node).last close late))
+records_rise g tables f h v w turns node close is within late =
+    let played = played_of g tables f h v w is in
+    let opened : Cluster = initial_cluster g tables in
+    rise_weaker 0 (moment (dispatcher_at opened node).last) close (records_in g w opened node turns) (omega arith)
+    (rise_play played node within turns opened (reached_open played) close
+    (by_moment (dispatcher_at (play g w opened turns) node).last close late))

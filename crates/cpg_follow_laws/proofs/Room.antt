@@ -38,42 +38,46 @@ use Rattle.cpg_follow_laws.proofs.Follow.{keeps_ready}
 -- what holds of what a map gives of each element holds of all its results; by induction on `xs`
 all_map : {X Y : Type 0} (P : Y → Type 0) (f : X → Y) (xs : List X) → ((x : X) → Contains xs x → P (f x)) →
     AllByRecursion P (map f xs)
-all_map P f [] h = tt
-all_map P f (x ∷ xs) h = (h x (Contains-first x xs), all_map P f xs (λ y m. h y (Contains-rest x xs y m)))
+all_map P f [] each = tt
+all_map P f (x ∷ xs) each = (
+  each x (Contains-first x xs),
+  all_map P f xs (λ y there. each y (Contains-rest x xs y there)),
+)
 
 -- what holds of all of two lists holds of all of both together; by induction on `xs`
 all_append : {X : Type 0} (P : X → Type 0) (xs ys : List X) → AllByRecursion P xs → AllByRecursion P ys →
     AllByRecursion P (xs ++ ys)
-all_append P [] ys h k = k
-all_append P (x ∷ xs) ys h k = (h.0, all_append P xs ys h.1 k)
+all_append P [] ys all k = k
+all_append P (x ∷ xs) ys all k = (all.0, all_append P xs ys all.1 k)
 
 -- a frame that isn't strange is of a column that is there: that it isn't is one of the tests of `is_strange`
 column_there : (d : Dispatcher) (time : ℕ) (f : Frame) → is_strange d time f ≡ false →
     f.column < length (columns_in d.table.hears f.item)
-column_there d time f e =
+column_there d time f fails =
     let unknown : Bool = not (list_any (λ (row : Row). row.item == f.item) d.table.hears) in
     let none : Bool = not (nat_lt f.column (length (columns_in d.table.hears f.item))) in
     let other : Bool = not ((get_or (columns_in d.table.hears f.item) f.column no_column).time == time) in
-    let p = or_parts (unknown || none || other) (list_any is_contradicted (hear_frame d.table d.heard f)) e in
-    let q = or_parts unknown none (or_parts (unknown || none) other p.0).0 in
+    let tests = or_parts (unknown || none || other) (list_any is_contradicted (hear_frame d.table d.heard f)) fails in
+    let first_tests = or_parts unknown none (or_parts (unknown || none) other tests.0).0 in
     ltb-true f.column (length (columns_in d.table.hears f.item))
-    (is_true (nat_lt f.column (length (columns_in d.table.hears f.item))) q.1)
+    (is_true (nat_lt f.column (length (columns_in d.table.hears f.item))) first_tests.1)
   where
     -- if `not b` is false, `b` is true
     is_true : (b : Bool) → not b ≡ false → b ≡ true
-    is_true true e = refl
-    is_true false e = absurd (true≢false e)
+    is_true true fails = refl
+    is_true false fails = absurd (true≢false fails)
 
 -- if each row has at most the limit of columns, so has the row of each item; by induction on `rows`
 columns_few : (rows : List Row) (x : ℕ) → ((row : Row) → Contains rows row → length row.columns ≤ MOST_COLUMNS) →
     length (columns_in rows x) ≤ MOST_COLUMNS
-columns_few [] x h = omega arith
-columns_few (row ∷ rows) x h = go (row.item == x) (columns_few rows x (λ r m. h r (Contains-rest row rows r m)))
+columns_few [] x each = omega arith
+columns_few (row ∷ rows) x each = go (row.item == x)
+    (columns_few rows x (λ r there. each r (Contains-rest row rows r there)))
   where
     -- by whether the first row is of the item
     go : (b : Bool) → length (columns_in rows x) ≤ MOST_COLUMNS →
         length (cond b row.columns (columns_in rows x)) ≤ MOST_COLUMNS
-    go true ih = h row (Contains-first row rows)
+    go true ih = each row (Contains-first row rows)
     go false ih = ih
 
 -- the frame of act `a` has the item of the act, whatever item `i` it is taken for
@@ -92,66 +96,71 @@ frame_plain g w x a less = go (nat_lt x (process_count g)) (nat_lt x (process_co
     go : (b c : Bool) → c ≡ true →
         (frame_of_item w (cond b (Start x)
         (cond c (Message (x - process_count g)) (Broadcast (x - process_count g - edge_count g)))) a).value ≡ false
-    go true c e = refl
-    go false true e = refl
-    go false false e = absurd (true≢false (sym e))
+    go true c holds = refl
+    go false true holds = refl
+    go false false holds = absurd (true≢false (sym holds))
 
 -- given a node of a play of the tables of a graph within the limits
-module _ {g : Graph} {tables : List NodeTable} {w : World} (k : Played g tables w) (within : IsWithinLimits g)
-    (of : AreTablesOf (head_of g) tables) (node : ℕ) (l : node < length g.nodes) where
+module _ {g : Graph} {tables : List NodeTable} {w : World} (played : Played g tables w) (within : IsWithinLimits g)
+    (of : AreTablesOf (head_of g) tables) (node : ℕ) (inside : node < length g.nodes) where
   -- an event that the node is told has room in a record
   abbrev Fits : ℕ × Event → Type 0
   Fits e = HasRoom (own_table g node (table_at tables node)) e.1
 
   -- a row that the node hears has no more than MOST_COLUMNS columns, as the row is lawful
   few : (x : ℕ) → length (columns_in (table_at tables node).hears x) ≤ MOST_COLUMNS
-  few x = columns_few (table_at tables node).hears x (λ row m.
-      (All-contains (IsLawfulRow (space_of (head_of g))) (rows_of (table_at tables node)) row (of.each node l).lawful
+  few each = columns_few (table_at tables node).hears each (λ row m.
+      (All-contains (IsLawfulRow (space_of (head_of g))) (rows_of (table_at tables node)) row
+      (of.each node inside).lawful
       (Contains-append_right (table_at tables node).starts
       ((table_at tables node).sends ++ (table_at tables node).hears) row
       (Contains-append_right (table_at tables node).sends (table_at tables node).hears row m))).few)
 
   -- given a node that takes its turn at the time
-  module _ (c : Cluster) (r : Reached g tables w c) (time : ℕ) (e : next (dispatcher_at c node) ≡ Some time)
+  module _ (c : Cluster) (reached : Reached g tables w c) (time : ℕ) (comes : next (dispatcher_at c node) ≡ Some time)
       (q : answer g c node ≡ Took) where
     -- The record of each frame has room: its item is one of the graph, its column is one of a lawful row, and a message
     -- carries no value.
     frame_fits : (f : Frame) → Contains (frames_now g w c (reported g w (dispatcher_at c node) time) time) f →
         Fits (frame_event time f)
-    frame_fits f m =
-        let free = free_from k c r node time q e in
-        let table = table_ready k c r node l time e in
-        let a = frame_parts k c r.holds node l (reported g w (dispatcher_at c node) time) table time f m in
+    frame_fits f there =
+        let free = free_from played c reached node time q comes in
+        let table = table_ready played c reached node inside time comes in
+        let arrival = frame_parts played c reached.holds node inside
+        (reported g w (dispatcher_at c node) time) table time f there in
         let fine : is_strange (reported g w (dispatcher_at c node) time) time f ≡ false =
-        frame_fine k c r.holds node l (reported g w (dispatcher_at c node) time) table time f a
-        (Learnt g tables w.scenario node (by (r.holds node l).last))
-        (keeps_ready k c r node l time e free) learnt_true in
+        frame_fine played c reached.holds node inside (reported g w (dispatcher_at c node) time) table time f arrival
+        (Learnt g tables w.scenario node (by (reached.holds node inside).last))
+        (keeps_ready played c reached node inside time comes free) learnt_true in
         let is_there = column_there (reported g w (dispatcher_at c node) time) time f fine in
         let hears : length (columns_in (reported g w (dispatcher_at c node) time).table.hears f.item)
         ≡ length (columns_in (table_at tables node).hears f.item) =
         ap (λ (t : NodeTable). length (columns_in t.hears f.item)) table in
-        let item : f.item ≡ a.item =
-        sym (ap (λ (f : Frame). f.item) a.is) ∙ frame_item w (item_at g a.item) a.act ∙ a.of in
-        let known : a.item < process_count g + edge_count g + condition_count g = a.within in (
+        let item : f.item ≡ arrival.item =
+        sym (ap (λ (f : Frame). f.item) arrival.is) ∙ frame_item w (item_at g arrival.item) arrival.act ∙ arrival.of in
+        let known : arrival.item < process_count g + edge_count g + condition_count g = arrival.within in (
           omega (arith, item, known, within.few_processes, within.few_edges, within.few_conditions),
           omega (arith, is_there, hears, few f.item),
           λ less. let before : f.item < process_count g + edge_count g = less in
-              sym (ap (λ (f : Frame). f.value) a.is) ∙ frame_plain g w a.item a.act (omega (arith, item, before)),
+              sym (ap (λ (f : Frame). f.value) arrival.is)
+              ∙ frame_plain g w arrival.item arrival.act (omega (arith, item, before)),
         )
 
     -- The record of each report has room: its process is one of the graph, and its faults are at most k.
     report_fits : (z : ℕ × Ended) → Contains (by_time (reports_now g w (dispatcher_at c node) time)) z →
         Fits (end_event z)
-    report_fits z m =
-        let is_there = in_by_time (reports_now g w (dispatcher_at c node) time) z m in
-        let a = report_is k c r node l time z is_there in
-        let known : a.process < process_count g = numbers-Contains (process_count g) a.process
-        (Contains-filter_parts (λ p. node_of g p == node) (numbers_below (process_count g)) a.process a.on).0 in
+    report_fits z there =
+        let is_there = in_by_time (reports_now g w (dispatcher_at c node) time) z there in
+        let report = report_is played c reached node inside time z is_there in
+        let known : report.process < process_count g = numbers-Contains (process_count g) report.process
+        (Contains-filter_parts (λ p. node_of g p == node) (numbers_below (process_count g))
+        report.process report.on).0 in
         let may = all_may (reports_now g w (dispatcher_at c node) time) (dispatcher_at c node)
-        (may_finish k c r node l time e) (reports_apart k c r node l time) z is_there in
+        (may_finish played c reached node inside time comes)
+        (reports_apart played c reached node inside time) z is_there in
         let faults : (dispatcher_at c node).table.faults ≡ g.faults =
-        ap (λ (d : Dispatcher). d.table.faults) (r.holds node l).is in (
-          omega (arith, known, a.is, within.few_processes),
+        ap (λ (d : Dispatcher). d.table.faults) (reached.holds node inside).is in (
+          omega (arith, known, report.is, within.few_processes),
           omega (arith, may.few, faults, within.faults),
         )
 
@@ -165,8 +174,8 @@ module _ {g : Graph} {tables : List NodeTable} {w : World} (k : Played g tables 
   -- each record of a node in a play has room; by induction on the turns, of which only the node's own have records
   pub all_fit : (turns : List ℕ) (c : Cluster) → Reached g tables w c →
       AllByRecursion Fits (records_in g w c node turns)
-  all_fit [] c r = tt
-  all_fit (a ∷ rest) c r = elim (cases_eq a node) [
+  all_fit [] c reached = tt
+  all_fit (a ∷ rest) c reached = elim (cases_eq a node) [
     | inl is ↦ subst (λ es. AllByRecursion Fits (es ++ records_in g w (step g w c a) node rest))
         (sym (cond-true (a == node) _ _ (eq-eqb a node is)))
         (subst (λ a. AllByRecursion Fits (records_by g w c a (answer g c a) (next (dispatcher_at c a))
@@ -174,15 +183,16 @@ module _ {g : Graph} {tables : List NodeTable} {w : World} (k : Played g tables 
         (all_append Fits (records_by g w c node (answer g c node) (next (dispatcher_at c node)))
         (records_in g w (step g w c node) node rest)
         (here (answer g c node) (next (dispatcher_at c node)) refl refl)
-        (all_fit rest (step g w c node) (reached_step k c r node))))
+        (all_fit rest (step g w c node) (reached_step played c reached node))))
     | inr ne ↦ subst (λ es. AllByRecursion Fits (es ++ records_in g w (step g w c a) node rest))
-        (sym (cond-false (a == node) _ _ (ne_eqb a node ne))) (all_fit rest (step g w c a) (reached_step k c r a))
+        (sym (cond-false (a == node) _ _ (ne_eqb a node ne)))
+        (all_fit rest (step g w c a) (reached_step played c reached a))
   ]
     where
       -- by what the node answers: only a node that takes its turn is told something
       here : (ans : Answer) (o : Option ℕ) → answer g c node ≡ ans → next (dispatcher_at c node) ≡ o →
           AllByRecursion Fits (records_by g w c node ans o)
-      here Took (Some time) q e = turn_fits c r time e q
+      here Took (Some time) takes comes = turn_fits c reached time comes takes
       here Took None q e = tt
       here (Waits b) o q e = tt
       here IsDone o q e = tt

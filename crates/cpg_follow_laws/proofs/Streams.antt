@@ -43,45 +43,45 @@ module _ (table : NodeTable) (bytes : List ℕ) (short : length bytes ≤ STREAM
 
   -- the end of the stream, as it is read, is that close
   read_end : (close : ℕ) → outcome (after table bytes) ≡ Ok close → stream_end table bytes ≡ Ok close
-  read_end close e =
+  read_end close is =
       ap (λ bytes. end_of (after table bytes) (length bytes)) whole
       ∙ ap (λ b. cond (is_none (after table bytes).lawless && b) (Err Long) (end_by (outcome (after table bytes))))
       (le-ltb STREAM_LIMIT (length bytes) short)
-      ∙ not_long (is_none (after table bytes).lawless) (end_by (outcome (after table bytes))) ∙ ap end_by e
+      ∙ not_long (is_none (after table bytes).lawless) (end_by (outcome (after table bytes))) ∙ ap end_by is
 
   -- its lines are those of its acts and that of the close
   read_lines : (h : Head) (close : ℕ) → stream_end table bytes ≡ Ok close →
       stream_lines h table bytes ≡ act_lines h (after table bytes).progress.acts ++ closed_line close
-  read_lines h close e =
-      ap₂ (λ (bytes : List ℕ) end. act_lines h (after table bytes).progress.acts ++ close_of end) whole e
+  read_lines h close is =
+      ap₂ (λ (bytes : List ℕ) end. act_lines h (after table bytes).progress.acts ++ close_of end) whole is
 
 -- The stream that spells a node's records and a close is lawful to that close, and on it the node does what is due. In
 -- any order in which time doesn't fall, the records lead to one state, and each has room in a record's bytes, so what
 -- holds of the records in the play's order (`streams_give`) holds of the bytes.
 pub bytes_give : BytesOfPlaysGiveWhatIsDue
-bytes_give g tables within of f v w turns node close es is l t =
-    let h = has_shape g within tables of in
-    let k = played_of g tables f h v w is in
+bytes_give g tables within of f v w turns node close es is in_play spelled =
+    let shape = has_shape g within tables of in
+    let played = played_of g tables f shape v w is in
     let table : NodeTable = own_table g node (table_at tables node) in
     -- what the node is told up to the close, and that it can follow these records
     let told : List (ℕ × Event) = records_in g w (initial_cluster g tables) node turns in
-    let fine = (plays_are_followed g tables f h v w turns node is l).none in
+    let fine = (plays_are_followed g tables f shape v w turns node is in_play).none in
     -- the records lead to the same state in the order in which they are spelled
     let same : follow (lawful (start table)) es ≡ follow (lawful (start table)) told =
     events_commute (start table) 0 close told es
-    (records_rise g tables f h v w turns node close is l t.late) t.rise t.those fine in
+    (records_rise g tables f shape v w turns node close is in_play spelled.late) spelled.rise spelled.those fine in
     -- its records have room in a table's bytes, so the stream spells them
-    let room = all_of (λ (e : ℕ × Event). HasRoom table e.1) es told t.those
-    (all_fit k within of node l turns (initial_cluster g tables) (reached_open k)) in
-    let taken = bytes_spell table es close t.small t.rise room (ap (λ (s : Step). s.fault) same ∙ fine) in
+    let room = all_of (λ (e : ℕ × Event). HasRoom table e.1) es told spelled.those
+    (all_fit played within of node in_play turns (initial_cluster g tables) (reached_open played)) in
+    let taken = bytes_spell table es close spelled.small spelled.rise room (ap (λ (s : Step). s.fault) same ∙ fine) in
     let closed : follow (lawful (start table)) (closed_at es close)
     ≡ follow (lawful (start table)) (closed_at told close) =
     fold-append follow_one (lawful (start table)) es ((close, Close) ∷ []) ∙ ap (λ s. follow_one s (close, Close)) same
     ∙ sym (fold-append follow_one (lawful (start table)) told ((close, Close) ∷ [])) in
     -- the acts that it has come to are those that are due
-    let due = (streams_give g tables f h v w turns node close is l t.done t.late).acts in
-    let count : length tables ≡ length g.nodes = h.count in
-    let own : table ≡ table_at tables node = own_is g tables within of node (omega (arith, l, count)) in
+    let due = (streams_give g tables f shape v w turns node close is in_play spelled.done spelled.late).acts in
+    let count : length tables ≡ length g.nodes = shape.count in
+    let own : table ≡ table_at tables node = own_is g tables within of node (omega (arith, in_play, count)) in
     let ends = subst (λ t. outcome (after t (stream_bytes (closed_at es close))) ≡ Ok close) own taken.ends in
     -- the stream ends with the close, the acts are what is due, and the lines that are shown are those of the acts
     record {

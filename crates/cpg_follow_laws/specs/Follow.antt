@@ -62,9 +62,9 @@ pub record IsFollowedSoFar (g : Graph) (tables : List NodeTable) (w : World) (tu
   -- no record is refused
   pub none : (follow (opened g tables node) (records_in g w (initial_cluster g tables) node turns)).fault ≡ None
   -- with all turns up to its last in the play, its state and its acts are those of the play
-  pub comes : let c = play g w (initial_cluster g tables) turns in
+  pub comes : let state = play g w (initial_cluster g tables) turns in
       HasCome (follow (opened g tables node) (records_in g w (initial_cluster g tables) node turns)).progress
-      (dispatcher_at c node) (get_or c.acts node [])
+      (dispatcher_at state node) (get_or state.acts node [])
 
 -- in each play of valid tables, each node can follow its records so
 abbrev pub PlaysAreFollowed : Type 0

@@ -19,7 +19,7 @@ only n = record { low = n; high = n }
 abbrev pub SentValuesAreKnown : Type 0
 SentValuesAreKnown = (g : Graph) (tables : List NodeTable) → WellFormed g → HasShape g tables → IsValid g tables →
     (w : World) (turns : List ℕ) (node condition : ℕ) (a : Act) → IsWorld g w → node < length g.nodes →
-    let c = play g w (initial_cluster g tables) turns in
-    Contains (get_or c.acts node []) a → a.item ≡ broadcast_item g condition →
-    range_of (dispatcher_at c node).heard (value_variable condition)
+    let state = play g w (initial_cluster g tables) turns in
+    Contains (get_or state.acts node []) a → a.item ≡ broadcast_item g condition →
+    range_of (dispatcher_at state node).heard (value_variable condition)
     ≡ only (number_of_value (frame_of_item w (item_at g a.item) a).value)

@@ -46,11 +46,12 @@ pairs_by R f n h = λ i j d l m.
 
 -- a letter with two different numbers below 60 makes two different names
 numbered_differ : (b : ℕ) (i j : ℕ) → i < j → j < 60 → numbered (b ∷ []) i ≢ numbered (b ∷ []) j
-numbered_differ b i j l m e = absurd (omega (arith, decimal_injective i j (omega arith) (omega arith) (ap (drop 1) e)))
+numbered_differ b i j i_less j_less e = absurd
+    (omega (arith, decimal_injective i j (omega arith) (omega arith) (ap (drop 1) e)))
 
 -- a draw is below its bound
 pub draw-lt : (x n bound : ℕ) → 0 < bound → nth_draw x n bound < bound
-draw-lt x n bound l = mod-lt (number_after x n / 2 ^ 33) l
+draw-lt x n bound less = mod-lt (number_after x n / 2 ^ 33) less
 
 -- a process made of draws is within the limits, with one of four nodes
 process_within : (x i : ℕ) → IsProcessWithin 4 (process_from x i)
@@ -70,8 +71,8 @@ process_within x i = record {
 
 -- the slot of each of the four nodes is within the limits
 slot_within : (i : ℕ) → i < 4 → IsSlotWithin 4 (slot_of i)
-slot_within i l =
-    record { node = l; lasts = omega arith; length = omega arith; holds = omega arith; bytes = omega arith }
+slot_within i less =
+    record { node = less; lasts = omega arith; length = omega arith; holds = omega arith; bytes = omega arith }
 
 -- an edge is as those of generated graphs are
 pub record IsGeneratedEdge (e : Edge) : Type 0 where
@@ -92,12 +93,12 @@ predecessor-lt x i some = omega arith
 
 -- if what is Some only if b is true is Some, b is true
 when_chosen : (b odd : Bool) → is_some (cond b (Some odd) None) ≡ true → b ≡ true
-when_chosen true odd e = refl
-when_chosen false odd e = absurd (true≢false (sym e))
+when_chosen true odd is_true = refl
+when_chosen false odd is_true = absurd (true≢false (sym is_true))
 
 -- each edge to process i is a generated one
 edges_are : (x i : ℕ) → i < 60 → (e : Edge) → Contains (edges_by x i) e → IsGeneratedEdge e
-edges_are x i l e k = go (i == 0) refl (i == 40) refl k
+edges_are x i less e k = go (i == 0) refl (i == 40) refl k
   where
     -- the two edges to the join are
     of_join : (value : Bool) → IsGeneratedEdge (edge_of 10 40 (Some value))
@@ -107,7 +108,7 @@ edges_are x i l e k = go (i == 0) refl (i == 40) refl k
     of_drawn : i ≢ 0 → IsGeneratedEdge (edge_of (predecessor_by x i) i (when_of (predecessor_by x i) i))
     of_drawn some = record {
       rises = predecessor-lt x i some;
-      within = l;
+      within = less;
       size = refl;
       frozen = refl;
       chosen = when_chosen ((predecessor_by x i == 10) || (predecessor_by x i == 20)) (i % 2 == 1);
@@ -120,16 +121,16 @@ edges_are x i l e k = go (i == 0) refl (i == 40) refl k
     -- the edge is one of the list's one or two
     go true r join j k = absurd (Contains-nil e k)
     go false r true j k = elim (Contains-cases (edge_of 10 40 (Some true)) (edge_of 10 40 (Some false) ∷ []) e k) [
-      | inl s ↦ subst IsGeneratedEdge s (of_join true)
-      | inr m ↦ elim (Contains-cases (edge_of 10 40 (Some false)) [] e m) [
-        | inl s ↦ subst IsGeneratedEdge s (of_join false)
-        | inr n ↦ absurd (Contains-nil e n)
+      | inl is_head ↦ subst IsGeneratedEdge is_head (of_join true)
+      | inr in_rest ↦ elim (Contains-cases (edge_of 10 40 (Some false)) [] e in_rest) [
+        | inl is_head ↦ subst IsGeneratedEdge is_head (of_join false)
+        | inr in_rest ↦ absurd (Contains-nil e in_rest)
       ]
     ]
     go false r false j k =
         elim (Contains-cases (edge_of (predecessor_by x i) i (when_of (predecessor_by x i) i)) [] e k) [
-          | inl s ↦ subst IsGeneratedEdge s (of_drawn (λ z. true≢false (sym (eq-eqb i 0 z) ∙ r)))
-          | inr m ↦ absurd (Contains-nil e m)
+          | inl is_head ↦ subst IsGeneratedEdge is_head (of_drawn (λ z. true≢false (sym (eq-eqb i 0 z) ∙ r)))
+          | inr in_rest ↦ absurd (Contains-nil e in_rest)
         ]
 
 -- how many edges lead to a process
@@ -156,18 +157,20 @@ module _ (number : ℕ) where
 
   -- each edge of a generated graph has the properties of a generated edge
   pub generated_edge : (e : Edge) → Contains (generated number).edges e → IsGeneratedEdge e
-  generated_edge e k =
-      let r = Contains-flat_map_parts (generated_edges number) (numbers_below 60) e k in
-      edges_are (number_after (number_before number r.0) 6) r.0 (numbers-Contains 60 r.0 r.1) e r.2
+  generated_edge e among =
+      let of_process = Contains-flat_map_parts (generated_edges number) (numbers_below 60) e among in
+      edges_are (number_after (number_before number of_process.0) 6) of_process.0
+      (numbers-Contains 60 of_process.0 of_process.1) e of_process.2
 
   -- the edge of each number is a generated one
   pub edge_there : (e : ℕ) → e < edge_count (generated number) → IsGeneratedEdge (edge_at (generated number) e)
-  edge_there e l = generated_edge (edge_at (generated number) e) (Contains-get_or (generated number).edges e _ l)
+  edge_there e below = generated_edge (edge_at (generated number) e)
+      (Contains-get_or (generated number).edges e _ below)
 
   -- the source of an edge has a lower number than its target
   pub edges_rise : (e : ℕ) → e < edge_count (generated number) →
       source (generated number) e < target (generated number) e
-  edges_rise e l = (edge_there e l).rises
+  edges_rise e below = (edge_there e below).rises
 
   -- a generated graph has 60 edges
   pub edges_count : edge_count (generated number) ≡ 60
@@ -181,8 +184,9 @@ module _ (number : ℕ) where
 
   -- a process with a condition is one of the two that may have one
   pub chooses : (p : ℕ) → is_disjunction (generated number) p ≡ true → is_choice p ≡ true
-  chooses p t =
-      let found = list_any_parts (λ e. is_some (edge_at (generated number) e).when) (outputs (generated number) p) t in
+  chooses p is_true =
+      let found = list_any_parts (λ e. is_some (edge_at (generated number) e).when)
+      (outputs (generated number) p) is_true in
       let ends = outputs_parts (generated number) p found.0 found.1 in
       subst (λ q. is_choice q ≡ true) ends.1 ((edge_there found.0 ends.0).chosen found.2)
 

@@ -16,8 +16,9 @@ is_name text = nat_le 1 (length text) && nat_le (length text) 32 && list_all is_
 
 -- a text that passes the test is a name
 IsName-from_test : (text : List ℕ) → is_name text ≡ true → IsName text
-IsName-from_test text h =
-    let (sized, plain) = and_parts (nat_le 1 (length text) && nat_le (length text) 32) (list_all is_name_byte text) h in
+IsName-from_test text is_true =
+    let (sized, plain) = and_parts (nat_le 1 (length text) && nat_le (length text) 32)
+    (list_all is_name_byte text) is_true in
     let (some, short) = and_parts (nat_le 1 (length text)) (nat_le (length text) 32) sized in
     record {
       some = leb-true 1 (length text) some;
@@ -28,11 +29,11 @@ IsName-from_test text h =
 -- the text that names each of the four nodes is a name
 pub node_name_is : (i : ℕ) → i < 4 → IsName (node_name i)
 unfolding digits
-node_name_is i l = IsName-from_test (node_name i)
-    (from_all (λ n. is_name (node_name n)) (numbers_below 4) i refl (Contains-numbers 4 i l))
+node_name_is i less = IsName-from_test (node_name i)
+    (from_all (λ n. is_name (node_name n)) (numbers_below 4) i refl (Contains-numbers 4 i less))
 
 -- the text that names each of the 60 processes is a name
 pub process_name_is : (i : ℕ) → i < 60 → IsName (process_name i)
 unfolding digits
-process_name_is i l = IsName-from_test (process_name i)
-    (from_all (λ n. is_name (process_name n)) (numbers_below 60) i refl (Contains-numbers 60 i l))
+process_name_is i less = IsName-from_test (process_name i)
+    (from_all (λ n. is_name (process_name n)) (numbers_below 60) i refl (Contains-numbers 60 i less))

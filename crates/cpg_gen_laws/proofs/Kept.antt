@@ -35,14 +35,14 @@ filter_long p xs = omega (arith, length-filter p xs, count_by-le-length p xs)
 
 -- a power of two up to the second is at most 4
 pub powers_few : (n : ℕ) → n ≤ 2 → 2 ^ n ≤ 4
-powers_few zero l = omega arith
-powers_few (suc zero) l = omega arith
-powers_few (suc (suc zero)) l = omega arith
-powers_few (suc (suc (suc n))) l = absurd (omega arith)
+powers_few zero at_most = omega arith
+powers_few (suc zero) at_most = omega arith
+powers_few (suc (suc zero)) at_most = omega arith
+powers_few (suc (suc (suc n))) at_most = absurd (omega arith)
 
 -- at most two conditions have at most four outcomes
 pub outcomes_few : (n : ℕ) → n ≤ 2 → length (outcomes n) ≤ 4
-outcomes_few n l = omega (arith, length-outcomes n, powers_few n l)
+outcomes_few n at_most = omega (arith, length-outcomes n, powers_few n at_most)
 
 -- two edges that ask for different values of one condition are not both live
 abbrev kept_of : Bool → Bool → List ℕ
@@ -57,12 +57,12 @@ one_live false false = omega arith
 
 -- a frame of one byte has room in a slot of 8
 not_above : (size : ℕ) → size ≡ 1 → nat_lt 8 size ≡ false
-not_above size e = le-ltb 8 size (omega (arith, e))
+not_above size same = le-ltb 8 size (omega (arith, same))
 
 -- a value isn't both true and false
 not_both : (b : Bool) → b ≡ true → not b ≡ true → ⊥
-not_both true e f = both_ways false refl f
-not_both false e f = both_ways false refl e
+not_both true is_true is_false = both_ways false refl is_false
+not_both false is_true is_false = both_ways false refl is_true
 
 -- given the number of a generated graph
 module _ (number : ℕ) where
@@ -71,8 +71,8 @@ module _ (number : ℕ) where
   -- An edge leads to a greater process.
   -- Each generated edge does.
   rises : (p q : ℕ) → has_edge (generated number) p q ≡ true → p < q
-  rises p q t =
-      let found = list_any_parts (λ (e : Edge). (e.from == p) && (e.to == q)) (generated number).edges t in
+  rises p q is_true =
+      let found = list_any_parts (λ (e : Edge). (e.from == p) && (e.to == q)) (generated number).edges is_true in
       let ends = and_parts (found.0.from == p) (found.0.to == q) found.2 in
       let from = eqb-true found.0.from p ends.0 in
       let to = eqb-true found.0.to q ends.1 in
@@ -136,9 +136,10 @@ module _ (number : ℕ) where
 
   -- there is no other join
   join_is : (p : ℕ) → p < process_count (generated number) → (process_at (generated number) p).join ≡ true → p ≡ 40
-  join_is p l t =
+  join_is p below is_true =
       let within : p < 60 = omega (arith, processes_count number) in
-      eqb-true p 40 (ap (λ (q : Process). q.join) (sym (get_or-map-below (generated_process number) 60 p _ within)) ∙ t)
+      eqb-true p 40 (ap (λ (q : Process). q.join) (sym (get_or-map-below (generated_process number) 60 p _ within))
+      ∙ is_true)
 
   -- no outcome makes two inputs of the join live, as they ask for different values of one condition
   pub single_joins : HasSingleJoins (generated number)
@@ -150,15 +151,15 @@ module _ (number : ℕ) where
 
   -- each node has a slot
   slot_there : (node : ℕ) → node < 4 → has_slot (generated number) node ≡ true
-  slot_there node l = list_any_true (λ (s : Slot). s.node == node) (generated number).slots (slot_of node)
-      (Contains-map slot_of (numbers_below 4) node (Contains-numbers 4 node l))
+  slot_there node less = list_any_true (λ (s : Slot). s.node == node) (generated number).slots (slot_of node)
+      (Contains-map slot_of (numbers_below 4) node (Contains-numbers 4 node less))
       (eq-eqb node node refl)
 
   -- the slot of each node holds 8 bytes
   slot_holds : (node : ℕ) → node < 4 → bytes_in (map slot_of (numbers_below 4)) node ≡ 8
-  slot_holds node l = eqb-true (bytes_in (map slot_of (numbers_below 4)) node) 8
+  slot_holds node less = eqb-true (bytes_in (map slot_of (numbers_below 4)) node) 8
       (from_all (λ n. bytes_in (map slot_of (numbers_below 4)) n == 8) (numbers_below 4) node refl
-      (Contains-numbers 4 node l))
+      (Contains-numbers 4 node less))
 
   -- Each message fits into its sender's slot.
   -- A generated edge has one byte, and each slot eight.
@@ -178,11 +179,11 @@ module _ (number : ℕ) where
   -- Fault by fault: each would break a rule that generated graphs keep.
   pub no_fault : (fault : RuleFault) → ShowsFault (generated number) fault → fault ≡ OutOfMemory
   no_fault (Cycle walk) shows = absurd (no_cycle (walk, shows))
-  no_fault TooManyTracks shows = absurd (let l = few_tracks in let m = shows.2 in omega (arith, l, m))
+  no_fault TooManyTracks shows = absurd (let at_most = few_tracks in let more = shows.2 in omega (arith, at_most, more))
   no_fault (TwoAlternatives p s) shows =
-      let a = shows.2 in
+      let join_there = shows.2 in
       absurd (two_live (length (filter (live (generated number) s.values) (inputs (generated number) p)))
-      (single_joins p s.values a.within a.join a.least.lawful.values) a.least.holds)
+      (single_joins p s.values join_there.within join_there.join join_there.least.lawful.values) join_there.least.holds)
   no_fault (NoSlot node) shows =
       let lacks = shows.2 in
       absurd (not_both (has_slot (generated number) node) (slot_there node lacks.within)

@@ -45,7 +45,7 @@ ways_of_processes =
 
 -- at most four outcomes, `p`, of 1,891 ways each, `w`, make at most 7,564
 product_few : (p w : ℕ) → p ≤ 4 → w ≡ 1891 → p * w ≤ 7564
-product_few p w l e = subst (λ v. p * v ≤ 7564) (sym e) (omega (arith, l))
+product_few p w at_most same = subst (λ v. p * v ≤ 7564) (sym same) (omega (arith, at_most))
 
 -- ---- lists of values alone
 
@@ -59,12 +59,14 @@ none_values v k = absurd (Contains-nil v k)
 
 -- the variables of some conditions are values alone
 values_values : (cs : List ℕ) → AreValues (map value_variable cs)
-values_values cs v k = let r = Contains-map_parts value_variable cs v k in omega (arith, r.2)
+values_values cs v among =
+    let of_condition = Contains-map_parts value_variable cs v among in omega (arith, of_condition.2)
 
 -- two reaches of values alone, `xs` and `ys`, make one together
 append_values : (xs ys : List ℕ) → AreValues xs → AreValues ys → AreValues (xs ++ ys)
-append_values xs ys h k v c =
-    ⊎_elim (λ (a : Contains xs v). h v a) (λ (a : Contains ys v). k v a) (Contains-append_cases xs ys v c)
+append_values xs ys xs_values ys_values v among =
+    ⊎_elim (λ (in_xs : Contains xs v). xs_values v in_xs) (λ (in_ys : Contains ys v). ys_values v in_ys)
+    (Contains-append_cases xs ys v among)
 
 -- if `xs` and `ys` are both variables of values alone, so is the one of them that `b` picks
 either_values : (b : Bool) (xs ys : List ℕ) → AreValues xs → AreValues ys → AreValues (cond b xs ys)
@@ -73,26 +75,27 @@ either_values false xs ys h k = k
 
 -- if `b` picks `xs` out of the two, and these are variables of values alone, so is what is picked, whatever `ys` are
 first_values : (b : Bool) (xs ys : List ℕ) → b ≡ true → AreValues xs → AreValues (cond b xs ys)
-first_values true xs ys e h = h
-first_values false xs ys e h = absurd (both_ways false refl e)
+first_values true xs ys is_true h = h
+first_values false xs ys is_true h = absurd (both_ways false refl is_true)
 
 -- a reach `vs` of values alone has the fault count of no process `p`
 no_count : (vs : List ℕ) → AreValues vs → (p : ℕ) → p < 128 → is_in vs p ≡ false
-no_count vs h p l =
-    list_any_false (λ u. u == p) vs (λ u k. ne_eqb u p (λ e. let high = h u k in omega (arith, high, e, l)))
+no_count vs values_alone p low =
+    list_any_false (λ u. u == p) vs (λ u among.
+    ne_eqb u p (λ e. let high = values_alone u among in omega (arith, high, e, low)))
 
 -- ---- sums
 
 -- The sum of `f` over the first `n + m` numbers is no less than over the first `n`. By induction on `m`.
 sums_grow : (f : ℕ → ℕ) (n m : ℕ) → sum_by f (numbers_below n) ≤ sum_by f (numbers_below (n + m))
-sums_grow f n zero = let e : n + 0 ≡ n = omega arith in
-    subst (λ k. sum_by f (numbers_below n) ≤ sum_by f (numbers_below k)) (sym e) (omega arith)
+sums_grow f n zero = let sums : n + 0 ≡ n = omega arith in
+    subst (λ k. sum_by f (numbers_below n) ≤ sum_by f (numbers_below k)) (sym sums) (omega arith)
 sums_grow f n (suc m) =
     let pushed : sum_by f (numbers_below (n + m + 1)) ≡ sum_by f (numbers_below (n + m)) + f (n + m) =
     ap (sum_by f) (below_push (n + m)) ∙ sum_by_push f (numbers_below (n + m)) (n + m) in
-    let ih = sums_grow f n m in
-    let e : n + suc m ≡ n + m + 1 = omega arith in
-    subst (λ k. sum_by f (numbers_below n) ≤ sum_by f (numbers_below k)) (sym e) (omega (arith, pushed, ih))
+    let smaller = sums_grow f n m in
+    let sums : n + suc m ≡ n + m + 1 = omega arith in
+    subst (λ k. sum_by f (numbers_below n) ≤ sum_by f (numbers_below k)) (sym sums) (omega (arith, pushed, smaller))
 
 -- the load that an item adds at most, by its number: 60 starts, 60 messages, and then broadcasts
 abbrev bound : ℕ → ℕ
@@ -100,17 +103,17 @@ bound x = cond (nat_lt x 60) 7564 (cond (nat_lt x 120) 8 30256)
 
 -- a start adds at most 7,564
 bound_of_start : (x : ℕ) → x < 60 → bound x ≡ 7564
-bound_of_start x l = cond-true (nat_lt x 60) 7564 (cond (nat_lt x 120) 8 30256) (lt-ltb x 60 l)
+bound_of_start x less = cond-true (nat_lt x 60) 7564 (cond (nat_lt x 120) 8 30256) (lt-ltb x 60 less)
 
 -- a message adds at most 8
 bound_of_message : (x : ℕ) → 60 ≤ x → x < 120 → bound x ≡ 8
-bound_of_message x l h = cond-false (nat_lt x 60) 7564 (cond (nat_lt x 120) 8 30256) (le-ltb x 60 l)
-    ∙ cond-true (nat_lt x 120) 8 30256 (lt-ltb x 120 h)
+bound_of_message x at_least less = cond-false (nat_lt x 60) 7564 (cond (nat_lt x 120) 8 30256) (le-ltb x 60 at_least)
+    ∙ cond-true (nat_lt x 120) 8 30256 (lt-ltb x 120 less)
 
 -- a broadcast adds at most 30,256
 bound_of_broadcast : (x : ℕ) → 120 ≤ x → bound x ≡ 30256
-bound_of_broadcast x l = cond-false (nat_lt x 60) 7564 (cond (nat_lt x 120) 8 30256) (le-ltb x 60 (omega arith))
-    ∙ cond-false (nat_lt x 120) 8 30256 (le-ltb x 120 l)
+bound_of_broadcast x at_least = cond-false (nat_lt x 60) 7564 (cond (nat_lt x 120) 8 30256) (le-ltb x 60 (omega arith))
+    ∙ cond-false (nat_lt x 120) 8 30256 (le-ltb x 120 at_least)
 
 -- the items of a generated graph add at most 514,832 in all
 bounds : sum_by bound (numbers_below 122) ≡ 514832
@@ -151,8 +154,8 @@ module _ (number : ℕ) where
         (length-filter (is_count_free (generated number) reached o) (numbers_below (process_count (generated number))))
         ∙ ap length
         (filter_none (is_count_free (generated number) reached o) (numbers_below (process_count (generated number)))
-        (λ p k. let l = numbers-Contains (process_count (generated number)) p k in
-        let within : p < 128 = omega (arith, l, processes_count number) in
+        (λ p among. let below = numbers-Contains (process_count (generated number)) p among in
+        let within : p < 128 = omega (arith, below, processes_count number) in
         ap (λ b. b && active (generated number) o p) (h p within)))
 
     -- so an outcome has one view
@@ -169,9 +172,9 @@ module _ (number : ℕ) where
         views-sum (generated number) reached (omega (arith, processes_count number))
         ∙ same_sum_by (views_of_outcome (generated number) reached) (λ o. 1) quiet (λ o k. one_view o) ∙
         sum_by_constant 1 quiet in
-        let fewer : length quiet ≤ length os = filter_long (is_quiet (generated number) reached) os in
+        let no_more : length quiet ≤ length os = filter_long (is_quiet (generated number) reached) os in
         let four = outcomes_few (condition_count (generated number)) (few_conditions number) in
-        omega (arith, sum, fewer, four)
+        omega (arith, sum, no_more, four)
 
   -- given an order, and what each item reaches under it
   module _ (order : List ℕ) (r : Reach) (is : IsReach (generated number) order r) where
@@ -198,24 +201,25 @@ module _ (number : ℕ) where
       -- Its reach is the conditions of its producer and the value of its own `when`.
       send_values : is_message (generated number) e ≡ true →
           AreValues (send_reach (generated number) order r (message_item (generated number) e))
-      send_values t =
-          let x = message_item (generated number) e in
-          let still = conditions_of (generated number) (producer (generated number) x) in
-          let moving = end_reach r (producer (generated number) x)
-          ++ flat_map (reach_of r) (queued_before (generated number) order x) in
-          let frozen : is_frozen (generated number) x ≡ true = ap (is_frozen_item (generated number)) item ∙
-          and_from (is_message (generated number) e) (edge_at (generated number) e).frozen t
+      send_values on_bus =
+          let item_of_edge = message_item (generated number) e in
+          let still = conditions_of (generated number) (producer (generated number) item_of_edge) in
+          let moving = end_reach r (producer (generated number) item_of_edge)
+          ++ flat_map (reach_of r) (queued_before (generated number) order item_of_edge) in
+          let frozen : is_frozen (generated number) item_of_edge ≡ true = ap (is_frozen_item (generated number)) item ∙
+          and_from (is_message (generated number) e) (edge_at (generated number) e).frozen on_bus
           (edge_there number e l).frozen in
-          append_values (cond (is_frozen (generated number) x) (map value_variable still) moving)
-          (sent_value (generated number) (item_at (generated number) x))
-          (first_values (is_frozen (generated number) x) (map value_variable still) moving frozen (values_values still))
+          append_values (cond (is_frozen (generated number) item_of_edge) (map value_variable still) moving)
+          (sent_value (generated number) (item_at (generated number) item_of_edge))
+          (first_values (is_frozen (generated number) item_of_edge)
+          (map value_variable still) moving frozen (values_values still))
           sent_values
 
       -- a message within a node isn't sent, so it depends on nothing
       if_sent : (b : Bool) → is_message (generated number) e ≡ b →
           AreValues (cond b (send_reach (generated number) order r (message_item (generated number) e)) [])
-      if_sent true t = send_values t
-      if_sent false t = none_values
+      if_sent true e_is = send_values e_is
+      if_sent false e_is = none_values
 
       -- so each message depends on values alone
       reached_values : AreValues (reach_by_item (generated number) order r (message_item (generated number) e)
@@ -236,33 +240,34 @@ module _ (number : ℕ) where
     -- the load of an item is at most its bound: its views times its rows, by whether it is a start (one row), a
     -- message (at most four views, at most two rows) or a broadcast (at most four rows)
     load_few : (x : ℕ) → x < item_count (generated number) → load (generated number) r x ≤ bound x
-    load_few x l =
+    load_few x below =
         let g = generated number in
         let count = processes_count number in
         let edges = edges_count number in
         let all = few_views (reach_of r x) in
-        elim (item_cases (generated number) x l) [
+        elim (item_cases (generated number) x below) [
           -- a start, in one row
-          | inl c ↦ (let rows = ap (rows_of_item (generated number)) c.1 in
+          | inl kind ↦ (let rows = ap (rows_of_item (generated number)) kind.1 in
               let product = product_within (views (generated number) (reach_of r x))
               (rows_of_item (generated number) (item_at (generated number) x)) 7564 1 all (omega (arith, rows)) in
-              let most = bound_of_start x (omega (arith, c.0, count)) in
+              let most = bound_of_start x (omega (arith, kind.0, count)) in
               omega (arith, product, most))
           -- a message
-          | inr (inl c) ↦ (let rows = ap (rows_of_item (generated number)) c.3 in
-              let two = few_rows (is_message (generated number) c.0) 2 in
+          | inr (inl kind) ↦ (let rows = ap (rows_of_item (generated number)) kind.3 in
+              let two = few_rows (is_message (generated number) kind.0) 2 in
               let four : views (generated number) (reach_of r x) ≤ 4 =
-              subst (λ y. views (generated number) (reach_of r y) ≤ 4) (sym c.2) (message_views c.0 c.1) in
+              subst (λ y. views (generated number) (reach_of r y) ≤ 4) (sym kind.2) (message_views kind.0 kind.1) in
               let product = product_within (views (generated number) (reach_of r x)) (rows_of_item (generated number)
               (item_at (generated number) x)) 4 2 four (omega (arith, rows, two)) in
-              let most = bound_of_message x (omega (arith, c.2, count)) (omega (arith, c.1, c.2, count, edges)) in
+              let most = bound_of_message x (omega (arith, kind.2, count))
+              (omega (arith, kind.1, kind.2, count, edges)) in
               omega (arith, product, most))
           -- a broadcast
-          | inr (inr c) ↦ (let rows = ap (rows_of_item (generated number)) c.3 in
+          | inr (inr kind) ↦ (let rows = ap (rows_of_item (generated number)) kind.3 in
               let four = few_rows (nat_lt 1 4) 4 in
               let product = product_within (views (generated number) (reach_of r x)) (rows_of_item (generated number)
               (item_at (generated number) x)) 7564 4 all (omega (arith, rows, four)) in
-              let most = bound_of_broadcast x (omega (arith, c.2, count, edges)) in
+              let most = bound_of_broadcast x (omega (arith, kind.2, count, edges)) in
               omega (arith, product, most))
         ]
 
@@ -270,14 +275,14 @@ module _ (number : ℕ) where
     -- Each load is within its bound, and the bounds of all 122 items add up to this.
     pub loads_up_to : (n : ℕ) → n ≤ item_count (generated number) →
         sum_by (load (generated number) r) (numbers_below n) ≤ 514832
-    loads_up_to n l =
+    loads_up_to n few =
         let count = processes_count number in
         let edges = edges_count number in
         let conditions = few_conditions number in
-        let within : n ≤ 122 = omega (arith, l, count, edges, conditions) in
+        let within : n ≤ 122 = omega (arith, few, count, edges, conditions) in
         let rest : n + (122 - n) ≡ 122 = omega (arith, within) in
         let each = sum_by-le_each (load (generated number) r) bound (numbers_below n)
-        (λ x k. let h = numbers-Contains n x k in load_few x (omega (arith, h, l))) in
+        (λ x among. let below = numbers-Contains n x among in load_few x (omega (arith, below, few))) in
         let grown = subst (λ m. sum_by bound (numbers_below n) ≤ sum_by bound (numbers_below m)) rest
         (sums_grow bound n (122 - n)) in
         let total = bounds in
@@ -286,7 +291,7 @@ module _ (number : ℕ) where
     -- No item has too many views or too great a load.
     -- 7,564 is below 16,384, and 514,832 below 524,288.
     not_wide : (x : ℕ) → x < item_count (generated number) → is_too_wide (generated number) r x ≡ false
-    not_wide x l =
+    not_wide x below =
         let narrow = few_views (reach_of r x) in
         let light = loads_up_to (x + 1) (omega arith) in
         and_right (nat_lt 0 (rows_of_item (generated number) (item_at (generated number) x)))

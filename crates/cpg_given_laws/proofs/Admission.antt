@@ -22,18 +22,18 @@ use Rattle.cpg_given_laws.proofs.Runs.{other, same_activations, same_urgency, sa
 module _ (g : Graph) (given : Option (List ℕ)) where
   -- a well-formed graph is so whatever order it gives
   pub formed_of_other : WellFormed g → WellFormed (other g given)
-  formed_of_other w = record {
-    sources = w.sources;
-    targets = w.targets;
-    nodes = w.nodes;
-    works = w.works;
-    parts = w.parts;
-    slot_nodes = w.slot_nodes;
-    slot_lengths = w.slot_lengths;
-    own_slots = w.own_slots;
-    senders = w.senders;
-    few_processes = w.few_processes;
-    few_conditions = w.few_conditions;
+  formed_of_other formed = record {
+    sources = formed.sources;
+    targets = formed.targets;
+    nodes = formed.nodes;
+    works = formed.works;
+    parts = formed.parts;
+    slot_nodes = formed.slot_nodes;
+    slot_lengths = formed.slot_lengths;
+    own_slots = formed.own_slots;
+    senders = formed.senders;
+    few_processes = formed.few_processes;
+    few_conditions = formed.few_conditions;
   }
 
   -- an order that is topological for a graph is so whatever order the graph gives
@@ -68,7 +68,7 @@ module _ (g : Graph) (given : Option (List ℕ)) where
   guards_of_other order guards are = record {
     conditions = are.conditions;
     count = are.count;
-    trees = λ p l. let is = are.trees p l in record {
+    trees = λ p below. let is = are.trees p below in record {
       is = λ o long. is.is o long ∙ ap (λ f. f o p) (sym (same_activations g given));
       ordered = ordered_of_other order (tree_of guards p) 0 is.ordered;
       reduced = is.reduced;
@@ -85,7 +85,7 @@ module _ (g : Graph) (given : Option (List ℕ)) where
 order_within : (g : Graph) (order : List ℕ) → IsTopological g order → IsOrderWithin (process_count g) order
 order_within g order top = record {
   there = All-from_get_or (λ p. p < process_count g) order 0
-      (λ i l. from_order (process_count g) order top.all (get_or order i 0) (Contains-get_or order i 0 l));
+      (λ i below. from_order (process_count g) order top.all (get_or order i 0) (Contains-get_or order i 0 below));
   once = order_apart (process_count g) order top.all;
 }
 

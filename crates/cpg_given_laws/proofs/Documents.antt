@@ -39,20 +39,20 @@ module _ (d : Data) (ms : Members) where
       Differs (slice_cmp nat_cmp (text_of key) (codes "order")) →
       optional as_type (top_of (keyed d ms)) key ≡ optional as_type (top_of ms) key
   unfolding optional
-  same_optional as_type key h =
-      ap (optional_in (top_of ms) key as_type) (other_key (codes "order") d (text_of key) ms h)
+  same_optional as_type key differs =
+      ap (optional_in (top_of ms) key as_type) (other_key (codes "order") d (text_of key) ms differs)
 
   -- each other key reads the same integer
   same_integer : (key : Key) → Differs (slice_cmp nat_cmp (text_of key) (codes "order")) →
       read_integer (top_of (keyed d ms)) key ≡ read_integer (top_of ms) key
   unfolding read_integer
-  same_integer key h = ap (λ found. found >>= required_in (top_of ms) key) (same_optional as_integer key h)
+  same_integer key differs = ap (λ found. found >>= required_in (top_of ms) key) (same_optional as_integer key differs)
 
   -- every other key has the same list of tables
   same_tables : (key : Key) → Differs (slice_cmp nat_cmp (text_of key) (codes "order")) →
       read_array (top_of (keyed d ms)) key ≡ read_array (top_of ms) key
   unfolding read_array
-  same_tables key h = ap (λ found. found >>= (λ o. pure (unwrap_or o []))) (same_optional as_tables key h)
+  same_tables key differs = ap (λ found. found >>= (λ o. pure (unwrap_or o []))) (same_optional as_tables key differs)
 
   -- the key `order` reads the names
   read_order : (names : List (List ℕ)) → as_names d ≡ Some names →
@@ -63,14 +63,14 @@ module _ (d : Data) (ms : Members) where
   -- if only keys of the top stand in the document, only such keys do with `order`
   still_only : (x : Unit {0}) → only top_keys (top_of ms) ≡ Ok x → only top_keys (top_of (keyed d ms)) ≡ Ok x
   unfolding only
-  still_only x h = elim (cases_Bool (are_listed top_keys ms)) [
+  still_only x is_read = elim (cases_Bool (are_listed top_keys ms)) [
     | inl all ↦ rw (still_listed (codes "order") d top_keys refl ms all) refl
-    | inr some ↦ absurd (refused h some)
+    | inr some ↦ absurd (refused is_read some)
   ]
     where
       -- what is excluded: a document with another key that is accepted
       refused : only top_keys (top_of ms) ≡ Ok x → are_listed top_keys ms ≡ false → ⊥
-      refused h some = let e = rw some at h in cc
+      refused is_read some = let read_none = rw some at is_read in cc
 
   -- A document says the same but for the order, whatever order it gave.
   -- The reader opens the document key by key. Each key but `order` reads as it did, and the key `order` reads as the
@@ -78,36 +78,36 @@ module _ (d : Data) (ms : Members) where
   pub raw_with : (r : RawGraph) (names : List (List ℕ)) → as_names d ≡ Some names → read_raw ms ≡ Ok r →
       read_raw (keyed d ms) ≡ Ok (record r { order = Some names })
   unfolding read_raw
-  raw_with r names is h =
+  raw_with r names is is_read =
       -- what was read at each key
-      opened (read_integer (top_of ms) Faults) _ r h λ faults a rest.
-      opened (read_integer (top_of ms) Deadline) _ r rest λ deadline b rest.
-      opened (read_array (top_of ms) Node) _ r rest λ nodes c rest.
-      opened (read_array (top_of ms) Slot) _ r rest λ slots e rest.
-      opened (read_array (top_of ms) Processes) _ r rest λ processes f rest.
-      opened (read_array (top_of ms) Edge) _ r rest λ edges g rest.
-      opened (optional as_names (top_of ms) Order) _ r rest λ old i rest.
+      opened (read_integer (top_of ms) Faults) _ r is_read λ faults faults_read rest.
+      opened (read_integer (top_of ms) Deadline) _ r rest λ deadline deadline_read rest.
+      opened (read_array (top_of ms) Node) _ r rest λ nodes nodes_read rest.
+      opened (read_array (top_of ms) Slot) _ r rest λ slots slots_read rest.
+      opened (read_array (top_of ms) Processes) _ r rest λ processes processes_read rest.
+      opened (read_array (top_of ms) Edge) _ r rest λ edges edges_read rest.
+      opened (optional as_names (top_of ms) Order) _ r rest λ old order_read rest.
       -- no other keys stand in the document
-      passed_on (only top_keys (top_of ms)) _ r rest λ done j rest.
+      passed_on (only top_keys (top_of ms)) _ r rest λ done only_top rest.
       -- the rows of the four tables
-      opened (read_rows tables.Node read_node nodes) _ r rest λ ns k rest.
-      opened (read_rows tables.Slot read_slot slots) _ r rest λ ss l rest.
-      opened (read_rows tables.Process read_process processes) _ r rest λ ps m rest.
-      opened (read_rows tables.Edge read_edge edges) _ r rest λ es n rest.
+      opened (read_rows tables.Node read_node nodes) _ r rest λ ns node_rows rest.
+      opened (read_rows tables.Slot read_slot slots) _ r rest λ ss slot_rows rest.
+      opened (read_rows tables.Process read_process processes) _ r rest λ ps process_rows rest.
+      opened (read_rows tables.Edge read_edge edges) _ r rest λ es edge_rows rest.
       rw (
         -- each key reads as it did, and `order` the names
-        same_integer Faults tt ∙ a,
-        same_integer Deadline tt ∙ b,
-        same_tables Node tt ∙ c,
-        same_tables Slot tt ∙ e,
-        same_tables Processes tt ∙ f,
-        same_tables Edge tt ∙ g,
+        same_integer Faults tt ∙ faults_read,
+        same_integer Deadline tt ∙ deadline_read,
+        same_tables Node tt ∙ nodes_read,
+        same_tables Slot tt ∙ slots_read,
+        same_tables Processes tt ∙ processes_read,
+        same_tables Edge tt ∙ edges_read,
         read_order names is,
-        still_only done j,
-        k,
-        l,
-        m,
-        n,
+        still_only done only_top,
+        node_rows,
+        slot_rows,
+        process_rows,
+        edge_rows,
       )
       (ap (λ (r : RawGraph). Ok (record r { order = Some names })) (same_ok _ r rest))
 
@@ -116,8 +116,8 @@ module _ (d : Data) (ms : Members) where
 pub raw_processes : (ms : Members) (r : RawGraph) → read_raw ms ≡ Ok r →
     AllByRecursion IsRead (process_names r.processes)
 unfolding read_raw
-raw_processes ms r h =
-    opened (read_integer (top_of ms) Faults) _ r h λ faults _ rest.
+raw_processes ms r is_read =
+    opened (read_integer (top_of ms) Faults) _ r is_read λ faults _ rest.
     opened (read_integer (top_of ms) Deadline) _ r rest λ deadline _ rest.
     opened (read_array (top_of ms) Node) _ r rest λ nodes _ rest.
     opened (read_array (top_of ms) Slot) _ r rest λ slots _ rest.

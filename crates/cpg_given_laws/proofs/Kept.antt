@@ -51,7 +51,7 @@ module _ (g : Graph) (urgency : List ℕ) (guards : Guards) (c : Compiled) (is :
   -- no item is too wide under it
   narrow : IsNarrow g c.order
   narrow = elim made.compiled.taken [
-    | inl p ↦ p.narrow
+    | inl preferred ↦ preferred.narrow
     | inr first ↦ subst (IsNarrow g) (sym first.0) (made.compiled.narrow ungiven)
   ]
 
@@ -61,19 +61,25 @@ module _ (g : Graph) (urgency : List ℕ) (guards : Guards) (c : Compiled) (is :
 
   -- no order is preferred to one that is given
   none_preferred : (order : List ℕ) → IsPreferred (with_order g c.order) urgency order → ⊥
-  none_preferred order p = none-some c.order (sym p.ungiven)
+  none_preferred order preferred = none-some c.order (sym preferred.ungiven)
 
   -- so its compile takes this order
   taken : (order : List ℕ) → IsCompileOrder (with_order g c.order) urgency order ↔ (order ≡ c.order)
-  taken order =
-      (λ t. elim t [ inl p ↦ absurd (none_preferred order p) | inr first ↦ first.0 ], λ e. inr (e, none_preferred))
+  taken order = (
+    λ taken_order. elim taken_order [
+      | inl preferred ↦ absurd (none_preferred order preferred)
+      | inr first ↦ first.0
+    ],
+    λ equal. inr (equal, none_preferred),
+  )
 
   -- the graph that gives the order compiles under it
   compiled : IsCompiled (with_order g c.order) urgency c.order
   compiled = record {
     narrow = λ none. absurd (none-some c.order (sym none));
     taken = (taken c.order).1 refl;
-    in_time = let m = made.compiled.in_time in (m.0, measured_of_other g (Some c.order) urgency c.order 0 m.0 m.1);
+    in_time = let measures = made.compiled.in_time in
+        (measures.0, measured_of_other g (Some c.order) urgency c.order 0 measures.0 measures.1);
   }
 
   -- so a compile of it can only fail for memory

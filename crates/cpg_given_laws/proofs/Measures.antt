@@ -1,5 +1,5 @@
--- So frozen times, greatest finishes and greatest excesses under an order are those of a graph that gives another
--- order, or none.
+-- Frozen times, greatest finishes and greatest excesses under an order are the same whatever order a graph gives, and
+-- if it gives none.
 use Rattle.std.proofs.Common.{ℕ, List, Option, IsTrue, sym, ◌∙◌, subst}
 use Rattle.cpg_base.specs.Graph.{Graph, item_at}
 use Rattle.cpg_base.specs.Scenario.{Scenario, IsScenario}
@@ -27,13 +27,13 @@ scenario_back g given = scenario_of_other (other g given) g.order
 module _ (g : Graph) (given : Option (List ℕ)) (order : List ℕ) (frozen : List (Option ℕ)) where
   -- a time that an item would have in the graph, it would have with another order given
   would_have : (x time : ℕ) → WouldHave g order frozen x time → WouldHave (other g given) order frozen x time
-  would_have x time h = record {
-    scenario = h.scenario;
-    lawful = scenario_of_other g given h.scenario h.lawful;
-    times = h.times;
-    run = run_of_other g given order h.scenario h.times frozen h.run;
-    active = subst IsTrue (sym (same_item_active g given h.scenario.values (item_at g x))) h.active;
-    has = same_unfrozen g given order h.scenario h.times x ∙ h.has;
+  would_have x time would = record {
+    scenario = would.scenario;
+    lawful = scenario_of_other g given would.scenario would.lawful;
+    times = would.times;
+    run = run_of_other g given order would.scenario would.times frozen would.run;
+    active = subst IsTrue (sym (same_item_active g given would.scenario.values (item_at g x))) would.active;
+    has = same_unfrozen g given order would.scenario would.times x ∙ would.has;
   }
 
 module _ (g : Graph) (given : Option (List ℕ)) (order : List ℕ) (frozen : List (Option ℕ)) where
@@ -44,9 +44,9 @@ module _ (g : Graph) (given : Option (List ℕ)) (order : List ℕ) (frozen : Li
   -- so a frozen time of the graph is one of the graph with another order
   frozen_time : (x : ℕ) → IsFrozenTime g order frozen x → IsFrozenTime (other g given) order frozen x
   frozen_time x is = record {
-    reached = λ time e. would_have g given order frozen x time (is.reached time e);
-    greatest = λ time most e h. is.greatest time most e (would_back x most h);
-    none = λ e time h. is.none e time (would_back x time h);
+    reached = λ time is_time. would_have g given order frozen x time (is.reached time is_time);
+    greatest = λ time most is_time would. is.greatest time most is_time (would_back x most would);
+    none = λ is_time time would. is.none is_time time (would_back x time would);
   }
 
   -- frozen times under an order are the same whatever order the graph gives
@@ -64,9 +64,11 @@ module _ (g : Graph) (given : Option (List ℕ)) (order : List ℕ) (frozen : Li
       greatest = λ u t law run. is.greatest u t (scenario_back g given u law) (run_back g given order frozen u t run);
       least = record {
         lawful = scenario_of_other g given s is.least.lawful;
-        holds = let h = is.least.holds in (h.0, run_of_other g given order s h.0 frozen h.1, h.2);
-        least = λ u law h.
-            is.least.least u (scenario_back g given u law) (h.0, run_back g given order frozen u h.0 h.1, h.2);
+        holds = let its_run = is.least.holds in
+            (its_run.0, run_of_other g given order s its_run.0 frozen its_run.1, its_run.2);
+        least = λ u law other_run.
+            is.least.least u (scenario_back g given u law)
+            (other_run.0, run_back g given order frozen u other_run.0 other_run.1, other_run.2);
       };
       by = λ t run. is.by t (run_back g given order frozen s t run);
     }
@@ -79,9 +81,11 @@ module _ (g : Graph) (given : Option (List ℕ)) (order : List ℕ) (frozen : Li
       greatest = λ u t law run. is.greatest u t (scenario_back g given u law) (run_back g given order frozen u t run);
       least = record {
         lawful = scenario_of_other g given s is.least.lawful;
-        holds = let h = is.least.holds in (h.0, run_of_other g given order s h.0 frozen h.1, h.2);
-        least = λ u law h.
-            is.least.least u (scenario_back g given u law) (h.0, run_back g given order frozen u h.0 h.1, h.2);
+        holds = let its_run = is.least.holds in
+            (its_run.0, run_of_other g given order s its_run.0 frozen its_run.1, its_run.2);
+        least = λ u law other_run.
+            is.least.least u (scenario_back g given u law)
+            (other_run.0, run_back g given order frozen u other_run.0 other_run.1, other_run.2);
       };
       by = λ t run. is.by t (run_back g given order frozen s t run);
     }

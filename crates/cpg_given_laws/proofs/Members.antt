@@ -22,31 +22,31 @@ Differs Greater = ⊤
 
 -- texts that compare as equal are the same
 same_text : (text other : List ℕ) → slice_cmp nat_cmp text other ≡ Equal → text ≡ other
-same_text text other e = (bytes_eq-Decides text other).0 (sym (is_eq-slice_cmp text other) ∙ ap is_eq e)
+same_text text other equal = (bytes_eq-Decides text other).0 (sym (is_eq-slice_cmp text other) ∙ ap is_eq equal)
 
 -- a key that compares by `o` as different is passed over: `found`, not `d`, is the answer
 passed : (o : Ordering) → Differs o → (found : Option Data) (d : Data) → match_ordering o found (Some d) found ≡ found
-passed Less h found d = refl
-passed Equal h found d = elim h [ ]
-passed Greater h found d = refl
+passed Less differs found d = refl
+passed Equal differs found d = elim differs [ ]
+passed Greater differs found d = refl
 
 -- given a key and a value
 module _ (k : List ℕ) (d : Data) where
   -- a value that is put at a key leaves those at other keys
   pub other_key : (other : List ℕ) (ms : Members) → Differs (slice_cmp nat_cmp other k) →
       get_member other (with_member k d ms) ≡ get_member other ms
-  other_key other no_members h = passed (slice_cmp nat_cmp other k) h None d
-  other_key other (member l e ms) h = by (slice_cmp nat_cmp k l) refl (other_key other ms h)
+  other_key other no_members differs = passed (slice_cmp nat_cmp other k) differs None d
+  other_key other (member l e ms) differs = by (slice_cmp nat_cmp k l) refl (other_key other ms differs)
     where
       -- by where the new key stands to the first one of the document
       by : (o : Ordering) → slice_cmp nat_cmp k l ≡ o → get_member other (with_member k d ms) ≡ get_member other ms
           → get_member other
           (match_ordering o (member k d (member l e ms)) (member l d ms) (member l e (with_member k d ms)))
           ≡ get_member other (member l e ms)
-      by Less is rest = passed (slice_cmp nat_cmp other k) h (get_member other (member l e ms)) d
+      by Less is rest = passed (slice_cmp nat_cmp other k) differs (get_member other (member l e ms)) d
       by Equal is rest =
           let apart : Differs (slice_cmp nat_cmp other l) =
-          subst (λ t. Differs (slice_cmp nat_cmp other t)) (same_text k l is) h in
+          subst (λ t. Differs (slice_cmp nat_cmp other t)) (same_text k l is) differs in
           passed (slice_cmp nat_cmp other l) apart (get_member other ms) d
           ∙ sym (passed (slice_cmp nat_cmp other l) apart (get_member other ms) e)
       by Greater is rest = ap (λ found. match_ordering (slice_cmp nat_cmp other l) found (Some e) found) rest
@@ -72,9 +72,9 @@ module _ (k : List ℕ) (d : Data) where
   pub still_listed : (keys : List Key) → list_any (λ key. bytes_eq (text_of key) k) keys ≡ true → (ms : Members) →
       are_listed keys ms ≡ true →
       are_listed keys (with_member k d ms) ≡ true
-  still_listed keys new no_members h = rw new refl
-  still_listed keys new (member l e ms) h =
-      let (here, rest) = and_parts (list_any (λ key. bytes_eq (text_of key) l) keys) (are_listed keys ms) h in
+  still_listed keys new no_members all_listed = rw new refl
+  still_listed keys new (member l e ms) all_listed =
+      let (here, rest) = and_parts (list_any (λ key. bytes_eq (text_of key) l) keys) (are_listed keys ms) all_listed in
       by (slice_cmp nat_cmp k l) here rest (still_listed keys new ms rest)
     where
       -- by where the key stands to the first one of the document

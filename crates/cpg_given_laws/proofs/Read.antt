@@ -45,30 +45,31 @@ are_numbered : (g : Graph) (order : List ℕ) → IsWithinLimits g → IsOrderWi
     AreNumbered (names_of g.processes) order
 unfolding graph_of resolved
 are_numbered g order limited within =
-    let h = with_order g order in
-    let raw = raw_of h in
+    let ordered = with_order g order in
+    let raw = raw_of ordered in
     -- no two names of nodes, of slots' nodes, of processes and of the order are the same
-    passed_on (apart tables.Node Name raw.nodes) _ h (graph_back h (limits_with g order limited within)) λ _ _ rest.
-    passed_on (apart tables.Slot Node (slot_names raw.slots)) _ h rest λ _ _ rest.
-    passed_on (apart tables.Process Name (process_names raw.processes)) _ h rest λ _ _ rest.
-    passed_on (order_apart raw.order) _ h rest λ _ differ rest.
+    passed_on (apart tables.Node Name raw.nodes) _ ordered (graph_back ordered (limits_with g order limited within))
+    λ _ _ rest.
+    passed_on (apart tables.Slot Node (slot_names raw.slots)) _ ordered rest λ _ _ rest.
+    passed_on (apart tables.Process Name (process_names raw.processes)) _ ordered rest λ _ _ rest.
+    passed_on (order_apart raw.order) _ ordered rest λ _ differ rest.
     -- the slots, the processes, the edges and the order by number
-    opened (each (slot_of raw.nodes) 0 raw.slots) _ h rest λ slots _ rest.
-    opened (each (process_of raw.nodes) 0 raw.processes) _ h rest λ processes _ rest.
-    opened (each (edge_of (process_names raw.processes)) 0 raw.edges) _ h rest λ edges _ rest.
-    opened (order_of (process_names raw.processes) raw.order) _ h rest λ found numbers last.
+    opened (each (slot_of raw.nodes) 0 raw.slots) _ ordered rest λ slots _ rest.
+    opened (each (process_of raw.nodes) 0 raw.processes) _ ordered rest λ processes _ rest.
+    opened (each (edge_of (process_names raw.processes)) 0 raw.edges) _ ordered rest λ edges _ rest.
+    opened (order_of (process_names raw.processes) raw.order) _ ordered rest λ found numbers last.
     record {
       apart = differ;
-      numbers = ap (λ names. order_of names raw.order) (sym (names_back h)) ∙ numbers
-          ∙ ap (λ (g : Graph). Ok g.order) (same_ok (graph_with raw slots processes edges found) h last);
+      numbers = ap (λ names. order_of names raw.order) (sym (names_back ordered)) ∙ numbers
+          ∙ ap (λ (g : Graph). Ok g.order) (same_ok (graph_with raw slots processes edges found) ordered last);
     }
 
 -- The processes of the graph `g` are called as in its document `r`. Step by step of the reading: only the list of
 -- processes makes the names, and it keeps them.
 same_names : (r : RawGraph) (g : Graph) → graph_of r ≡ Ok g → names_of g.processes ≡ process_names r.processes
 unfolding graph_of resolved
-same_names r g h =
-    passed_on (apart tables.Node Name r.nodes) _ g h λ _ _ rest.
+same_names r g is_g =
+    passed_on (apart tables.Node Name r.nodes) _ g is_g λ _ _ rest.
     passed_on (apart tables.Slot Node (slot_names r.slots)) _ g rest λ _ _ rest.
     passed_on (apart tables.Process Name (process_names r.processes)) _ g rest λ _ _ rest.
     passed_on (order_apart r.order) _ g rest λ _ _ rest.
@@ -85,16 +86,16 @@ graph_ordered : (r : RawGraph) (g : Graph) (order : List ℕ) → graph_of r ≡
     AreNumbered (process_names r.processes) order
     → graph_of (record r { order = Some (map (name_in (process_names r.processes)) order) }) ≡ Ok (with_order g order)
 unfolding graph_of resolved
-graph_ordered r g order h are =
-    passed_on (apart tables.Node Name r.nodes) _ g h λ _ a rest.
-    passed_on (apart tables.Slot Node (slot_names r.slots)) _ g rest λ _ b rest.
-    passed_on (apart tables.Process Name (process_names r.processes)) _ g rest λ _ c rest.
+graph_ordered r g order is_g are =
+    passed_on (apart tables.Node Name r.nodes) _ g is_g λ _ nodes_apart rest.
+    passed_on (apart tables.Slot Node (slot_names r.slots)) _ g rest λ _ slots_apart rest.
+    passed_on (apart tables.Process Name (process_names r.processes)) _ g rest λ _ processes_apart rest.
     passed_on (order_apart r.order) _ g rest λ _ _ rest.
-    opened (each (slot_of r.nodes) 0 r.slots) _ g rest λ slots d rest.
-    opened (each (process_of r.nodes) 0 r.processes) _ g rest λ processes e rest.
-    opened (each (edge_of (process_names r.processes)) 0 r.edges) _ g rest λ edges f rest.
+    opened (each (slot_of r.nodes) 0 r.slots) _ g rest λ slots are_slots rest.
+    opened (each (process_of r.nodes) 0 r.processes) _ g rest λ processes are_processes rest.
+    opened (each (edge_of (process_names r.processes)) 0 r.edges) _ g rest λ edges are_edges rest.
     opened (order_of (process_names r.processes) r.order) _ g rest λ found _ last.
-    rw (a, b, c, are.apart, d, e, f, are.numbers)
+    rw (nodes_apart, slots_apart, processes_apart, are.apart, are_slots, are_processes, are_edges, are.numbers)
     (ap (λ (g : Graph). Ok (with_order g order)) (same_ok (graph_with r slots processes edges found) g last))
 
 -- the faults and the deadline are the same whatever the order
@@ -108,8 +109,8 @@ read_with : (ms : Members) (g : Graph) (order : List ℕ) → read_members ms �
     IsOrderWithin (process_count g) order →
     read_members (with_key g order ms) ≡ Ok (with_order g order)
 unfolding read_members
-read_with ms g order h within =
-    opened (read_raw ms) _ g h λ r raw rest.
+read_with ms g order is_g within =
+    opened (read_raw ms) _ g is_g λ r raw rest.
     passed_on (limits r) _ g rest λ x limited graph.
     -- the names are those of the graph's processes, and are read as the order
     let same = same_names r g graph in
@@ -137,4 +138,4 @@ pub orders_are_read : (bytes new : List ℕ) (ms : Members) (g : Graph) (order :
     problem_of new ≡ Ok (with_order g order)
 unfolding problem_of
 orders_are_read bytes new ms g order is says within keyed =
-    rw keyed (read_with ms g order (let e = rw is at says in e) within)
+    rw keyed (read_with ms g order (let says_g = rw is at says in says_g) within)

@@ -23,13 +23,15 @@ use Rattle.cpg_head.specs.GraphHead.{head_process, extra_of, is_plain, head_of}
 
 -- an execution of a process within the limits, with at most 8 faults, lasts less than 2 ^ 60
 short : (n : ℕ) (p : Process) (f : ℕ) → IsProcessWithin n p → f ≤ 8 → duration_of p f < 2 ^ 60
-short n p f w h =
+short n p f within few_faults =
     let parts : p.parts * (p.alpha + p.chi) ≤ 255 * 2000000000 =
-    mul-le-mul w.parts (let e : p.alpha + p.chi ≤ 2000000000 = omega (arith, w.alpha, w.chi) in e) in
-    let again : div_ceil p.wcet p.parts ≤ 1000000001 = omega (arith, div-le_self p.wcet p.parts, w.wcet) in
-    let faults : f * (p.mu + div_ceil p.wcet p.parts + p.alpha) ≤ 8 * 3000000001 = mul-le-mul h
-    (let e : p.mu + div_ceil p.wcet p.parts + p.alpha ≤ 3000000001 = omega (arith, w.mu, w.alpha, again) in e) in
-    omega (arith, parts, faults, w.wcet)
+    mul-le-mul within.parts
+    (let sums : p.alpha + p.chi ≤ 2000000000 = omega (arith, within.alpha, within.chi) in sums) in
+    let again : div_ceil p.wcet p.parts ≤ 1000000001 = omega (arith, div-le_self p.wcet p.parts, within.wcet) in
+    let faults : f * (p.mu + div_ceil p.wcet p.parts + p.alpha) ≤ 8 * 3000000001 = mul-le-mul few_faults
+    (let sums : p.mu + div_ceil p.wcet p.parts + p.alpha ≤ 3000000001 =
+    omega (arith, within.mu, within.alpha, again) in sums) in
+    omega (arith, parts, faults, within.wcet)
 
 -- what holds of each number below a bound holds of all of them
 pub All-below : (P : ℕ → Type 0) (n : ℕ) → ((x : ℕ) → x < n → P x) → All P (numbers_below n)
@@ -47,19 +49,20 @@ count_by-map p f (x ∷ xs) =
 
 -- an option that is there has a value
 some_of : (o : Option ℕ) → is_some o ≡ true → (c : ℕ) × (o ≡ Some c)
-some_of None e = absurd (true≢false (sym e))
-some_of (Some c) e = (c, refl)
+some_of None is_true = absurd (true≢false (sym is_true))
+some_of (Some c) is_true = (c, refl)
 
 module _ (g : Graph) where
   -- a process has a condition if and only if it has a conditional output
   pub has_condition : (p : ℕ) → p < process_count g → is_some (condition_of g p) ≡ is_disjunction g p
-  has_condition p l = same_truth (is_some (condition_of g p)) (is_disjunction g p)
-      (λ e. let c = some_of (condition_of g p) e in
-      subst (λ q. is_disjunction g q ≡ true) (process_of_condition_of g p c.0 c.1)
-      (Contains-filter_parts (is_disjunction g) (numbers_below (process_count g)) (process_of g c.0)
-      (Contains-disjunctions g c.0 (condition_of_below g p c.0 c.1))).1)
-      (λ e. let c = condition_there g p l e in
-      ap is_some (ap (condition_of g) (sym c.2) ∙ condition_of_process_of g c.0 c.1))
+  has_condition p below = same_truth (is_some (condition_of g p)) (is_disjunction g p)
+      (λ e. let its_condition = some_of (condition_of g p) e in
+      subst (λ q. is_disjunction g q ≡ true) (process_of_condition_of g p its_condition.0 its_condition.1)
+      (Contains-filter_parts (is_disjunction g) (numbers_below (process_count g)) (process_of g its_condition.0)
+      (Contains-disjunctions g its_condition.0 (condition_of_below g p its_condition.0 its_condition.1))).1)
+      (λ e. let its_condition = condition_there g p below e in
+      ap is_some (ap (condition_of g) (sym its_condition.2) ∙
+      condition_of_process_of g its_condition.0 its_condition.1))
 
   -- as many processes of the head have a condition as the graph has conditions
   pub conditions_counted : count_by (λ p. p.condition) (head_of g).processes ≡ condition_count g
@@ -73,9 +76,9 @@ module _ (g : Graph) where
   module _ (w : IsWithinLimits g) where
     -- what the head says of a process is within the limits: its node is known, and its times are below 2 ^ 60
     process_within : (p : ℕ) → p < process_count g → IsHeadProcess g.faults (length g.nodes) (head_process g p)
-    process_within p l =
+    process_within p below =
         let at : IsProcessWithin (length g.nodes) (process_at g p) =
-        All-get_or (IsProcessWithin (length g.nodes)) g.processes p _ l w.processes in
+        All-get_or (IsProcessWithin (length g.nodes)) g.processes p _ below w.processes in
         record {
           node = at.node;
           count = length-map-range_with_len (duration g p) 0 (g.faults + 1);

@@ -23,8 +23,10 @@ use Rattle.cpg_hyper.proofs.Whole.{contained}
 
 -- both ends of an edge lie between two numbers
 pub record LiesBetween (low high : ℕ) (e : Edge) : Type 0 where
+  -- its source is at least the one and less than the other
   pub from : low ≤ e.from
   pub from_ends : e.from < high
+  -- and so is its target
   pub to : low ≤ e.to
   pub to_ends : e.to < high
 
@@ -33,28 +35,28 @@ of_instance : (first a b i size : ℕ) (e d : Edge) → a ≤ i → i < b → Is
     copied_edge (first + i * size) d ≡ e →
     LiesBetween (first + a * size) (first + b * size) e
 -- the ends of the copy are those of the edge moved by the instance's first process, which is a * size or more behind `first`
-of_instance first a b i size e d low high h is =
+of_instance first a b i size e d low high old_within is =
     let least : a * size ≤ i * size = product_le a i size low in
     let most : (i + 1) * size ≤ b * size = product_le (i + 1) b size (omega (arith, high)) in
     let from : e.from ≡ first + i * size + d.from = ap (λ (x : Edge). x.from) (sym is) in
     let to : e.to ≡ first + i * size + d.to = ap (λ (x : Edge). x.to) (sym is) in
     record {
       from = omega (arith, least, from);
-      from_ends = omega (arith, most, from, h.from);
+      from_ends = omega (arith, most, from, old_within.from);
       to = omega (arith, least, to);
-      to_ends = omega (arith, most, to, h.to);
+      to_ends = omega (arith, most, to, old_within.to);
     }
 
 -- both ends of each edge of k instances of a part, from one on, lie between two numbers
 pub lies_in : (first a k : ℕ) (part : Part) → IsWithinLimits part.problem → (e : Edge) →
     Contains (flat_map (edges_in first part) (range_with_len a k)) e →
     LiesBetween (first + a * size_of part) (first + (a + k) * size_of part) e
-lies_in first a k part h e c =
-    let (i, among, here) = Contains-flat_map_parts (edges_in first part) (range_with_len a k) e c in
+lies_in first a k part within e listed =
+    let (i, among, here) = Contains-flat_map_parts (edges_in first part) (range_with_len a k) e listed in
     let (d, has, is) = Contains-map_parts (copied_edge (first_in first part i)) part.problem.edges e here in
     let range = from_range a k i among in
     of_instance first a (a + k) i (size_of part) e d range.0 range.1
-    (contained (IsEdgeWithin (size_of part)) part.problem.edges d h.edges has) is
+    (contained (IsEdgeWithin (size_of part)) part.problem.edges d within.edges has) is
 
 -- the edges of the parts from a first process on lie at this process or above
 lies_above : (whole first : ℕ) (parts : List Part) →
@@ -63,30 +65,33 @@ lies_above : (whole first : ℕ) (parts : List Part) →
     (first ≤ e.from) ×
     (first ≤ e.to)
 -- by induction on the parts
-lies_above whole first [] h e c = absurd (Contains-nil e c)
-lies_above whole first (part ∷ parts) h e c = ⊎_elim
-    (λ (d : Contains (edges_of whole first part) e).
-    let l = lies_in first 0 (whole / part.period) part (h part (Contains-first part parts)) e d in
-    (omega (arith, l.from), omega (arith, l.to)))
-    (λ (d : Contains (edges_from whole (after_part whole first part) parts) e).
-    let l = lies_above whole (after_part whole first part) parts
-    (λ other k. h other (Contains-rest part parts other k)) e d in
-    (omega (arith, l.0), omega (arith, l.1)))
-    (Contains-append_cases (edges_of whole first part) (edges_from whole (after_part whole first part) parts) e c)
+lies_above whole first [] within e listed = absurd (Contains-nil e listed)
+lies_above whole first (part ∷ parts) within e listed = ⊎_elim
+    (λ (in_own : Contains (edges_of whole first part) e).
+    let bounds = lies_in first 0 (whole / part.period) part (within part (Contains-first part parts)) e in_own in
+    (omega (arith, bounds.from), omega (arith, bounds.to)))
+    (λ (in_later : Contains (edges_from whole (after_part whole first part) parts) e).
+    let bounds = lies_above whole (after_part whole first part) parts
+    (λ other k. within other (Contains-rest part parts other k)) e in_later in
+    (omega (arith, bounds.0), omega (arith, bounds.1)))
+    (Contains-append_cases (edges_of whole first part) (edges_from whole (after_part whole first part) parts) e listed)
 
--- the edges `mine` stand in one piece from edge n on; those before them are on processes below `first`, and those after them on
--- processes from `first + size` on
+-- the edges `mine` stand in one piece from edge n on; those before them are on processes below `first`, and those after
+-- them on processes from `first + size` on
 pub record AreAround (n first size : ℕ) (all mine : List Edge) : Type 0 where
+  -- the edges before `mine`, and those after them
   pub front : List Edge
   pub back : List Edge
+  -- all edges are these three pieces, and the first of them has n edges
   pub are : all ≡ front ++ (mine ++ back)
   pub long : length front ≡ n
+  -- both ends of an edge before `mine` are below `first`, and those of an edge after them are `first + size` or above
   pub earlier : (e : Edge) → Contains front e → (e.from < first) × (e.to < first)
   pub later : (e : Edge) → Contains back e → (first + size ≤ e.from) × (first + size ≤ e.to)
 
 -- the numbers below n are those before i, i, and those after it
 cut : (n i k : ℕ) → n ≡ i + suc k → numbers_below n ≡ numbers_below i ++ i ∷ range_with_len (i + 1) k
-cut n i k e = ap (λ m. numbers_below m) e ∙ range-append 0 i (suc k)
+cut n i k is = ap (λ m. numbers_below m) is ∙ range-append 0 i (suc k)
     ∙ ap (λ (m : ℕ). numbers_below i ++ range_with_len m (suc k)) (nothing_before i)
   where
     -- 0 is left out of a sum
@@ -108,33 +113,34 @@ around_in : (whole first i : ℕ) (part : Part) (rest : List Edge) → IsWithinL
     (edges_of whole first part ++ rest) (edges_in first part i)
 -- in front stand the edges of the earlier instances, behind those of the later ones and of the later parts; the
 -- processes of each are numbered below or above those of this instance
-around_in whole first i part rest h l above =
-    let f = edges_in first part in
-    let n = whole / part.period in
-    let k = n - (i + 1) in
-    let most : (i + 1) * size_of part ≤ n * size_of part = product_le (i + 1) n (size_of part) (omega (arith, l)) in
+around_in whole first i part rest within inside above =
+    let copied = edges_in first part in
+    let count = whole / part.period in
+    let later_count = count - (i + 1) in
+    let most : (i + 1) * size_of part ≤ count * size_of part = product_le (i + 1) count (size_of part)
+    (omega (arith, inside)) in
     record {
       -- the edges of the earlier instances are in front, and all others behind
-      front = flat_map f (numbers_below i);
-      back = flat_map f (range_with_len (i + 1) k) ++ rest;
+      front = flat_map copied (numbers_below i);
+      back = flat_map copied (range_with_len (i + 1) later_count) ++ rest;
       -- together with the instance's own they are all edges
-      are = ap (λ xs. flat_map f xs ++ rest) (cut n i k (omega (arith, l)))
-          ∙ pieces f (numbers_below i) i (range_with_len (i + 1) k) rest;
-      long = constant_pieces f (length part.problem.edges) (λ j. length-map part.problem.edges _) (numbers_below i)
+      are = ap (λ xs. flat_map copied xs ++ rest) (cut count i later_count (omega (arith, inside)))
+          ∙ pieces copied (numbers_below i) i (range_with_len (i + 1) later_count) rest;
+      long = constant_pieces copied (length part.problem.edges) (λ j. length-map part.problem.edges _) (numbers_below i)
           ∙ ap (λ m. m * length part.problem.edges) (length-range_with_len 0 i);
       -- edges in front are between lower processes
-      earlier = λ e c.
-          let b = lies_in first 0 i part h e c in
-          (omega (arith, b.from_ends), omega (arith, b.to_ends));
+      earlier = λ e listed.
+          let bounds = lies_in first 0 i part within e listed in
+          (omega (arith, bounds.from_ends), omega (arith, bounds.to_ends));
       -- edges behind are between greater processes, of later instances or of later parts
-      later = λ e c. ⊎_elim
-          (λ (d : Contains (flat_map f (range_with_len (i + 1) k)) e).
-          let b = lies_in first (i + 1) k part h e d in
-          (omega (arith, b.from), omega (arith, b.to)))
-          (λ (d : Contains rest e).
-          let b = above e d in
-          (omega (arith, b.0, most), omega (arith, b.1, most)))
-          (Contains-append_cases (flat_map f (range_with_len (i + 1) k)) rest e c);
+      later = λ e listed. ⊎_elim
+          (λ (in_instances : Contains (flat_map copied (range_with_len (i + 1) later_count)) e).
+          let bounds = lies_in first (i + 1) later_count part within e in_instances in
+          (omega (arith, bounds.from), omega (arith, bounds.to)))
+          (λ (in_rest : Contains rest e).
+          let bounds = above e in_rest in
+          (omega (arith, bounds.0, most), omega (arith, bounds.1, most)))
+          (Contains-append_cases (flat_map copied (range_with_len (i + 1) later_count)) rest e listed);
     }
 
 -- edges that stand together in a list stand together in a list with more edges before them
@@ -143,13 +149,13 @@ around_later : (n own first size : ℕ) (mine new rest : List Edge) → length m
     AreAround n first size rest new →
     AreAround (own + n) first size (mine ++ rest) new
 -- the new edges are added to those in front, since they are on processes below the first too
-around_later n own first size mine new rest long below a = record {
-  front = mine ++ a.front;
-  back = a.back;
-  are = ap (λ es. mine ++ es) a.are ∙ sym (append_assoc mine a.front (new ++ a.back));
-  long = omega (arith, length-append mine a.front, long, a.long);
-  earlier = λ e c. ⊎_elim (below e) (a.earlier e) (Contains-append_cases mine a.front e c);
-  later = a.later;
+around_later n own first size mine new rest long below around = record {
+  front = mine ++ around.front;
+  back = around.back;
+  are = ap (λ es. mine ++ es) around.are ∙ sym (append_assoc mine around.front (new ++ around.back));
+  long = omega (arith, length-append mine around.front, long, around.long);
+  earlier = λ e listed. ⊎_elim (below e) (around.earlier e) (Contains-append_cases mine around.front e listed);
+  later = around.later;
 }
 
 -- a number is the sum of 0 and itself
@@ -172,29 +178,30 @@ pub are_around : (whole first : ℕ) (parts : List Part) →
     → AreAroundAt whole first parts p (first_edge_of whole parts p i) (first + first_process_of whole parts p i)
 -- by induction on the parts: the instance is one of the first part, or one of a later part, with the first part's
 -- edges in front
-are_around whole first [] h p i is = absurd (omega (arith, is.part))
-are_around whole first (part ∷ parts) h zero i is =
+are_around whole first [] within p i is = absurd (omega (arith, is.part))
+are_around whole first (part ∷ parts) within zero i is =
     -- an instance of the first part
     let here = around_in whole first i part (edges_from whole (after_part whole first part) parts)
-    (h part (Contains-first part parts)) is.instance
-    (lies_above whole (after_part whole first part) parts (λ other k. h other (Contains-rest part parts other k))) in
+    (within part (Contains-first part parts)) is.instance
+    (lies_above whole (after_part whole first part) parts
+    (λ other k. within other (Contains-rest part parts other k))) in
     subst (AreAroundAt whole first (part ∷ parts) 0 (0 + i * length part.problem.edges))
     (same_first first (i * size_of part))
     (subst (λ n. AreAroundAt whole first (part ∷ parts) 0 n (first_in first part i))
     (same_edges (i * length part.problem.edges)) here)
-are_around whole first (part ∷ parts) h (suc p) i is =
+are_around whole first (part ∷ parts) within (suc p) i is =
     -- an instance of a later part: the first part's edges are in front too
     let next = after_part whole first part in
     let begin = next + first_process_of whole parts p i in
     let own = whole / part.period * length part.problem.edges in
-    let rest = are_around whole next parts (λ other k. h other (Contains-rest part parts other k)) p i
+    let rest = are_around whole next parts (λ other k. within other (Contains-rest part parts other k)) p i
     (record { part = omega (arith, is.part); instance = is.instance }) in
     let here = around_later (first_edge_of whole parts p i) own begin (size_of (part_at parts p))
     (edges_of whole first part) (map (copied_edge begin) (part_at parts p).problem.edges)
     (edges_from whole next parts) (edges_size whole first part)
-    (λ e c.
-    let b = lies_in first 0 (whole / part.period) part (h part (Contains-first part parts)) e c in
-    (omega (arith, b.from_ends), omega (arith, b.to_ends)))
+    (λ e listed.
+    let bounds = lies_in first 0 (whole / part.period) part (within part (Contains-first part parts)) e listed in
+    (omega (arith, bounds.from_ends), omega (arith, bounds.to_ends)))
     rest in
     subst (AreAroundAt whole first (part ∷ parts) (suc p) (first_edge_of whole (part ∷ parts) (suc p) i))
     (next_first first (whole / part.period * size_of part) (processes_before whole parts p) (i * size_of (part_at parts p)))

@@ -25,20 +25,21 @@ in_part : (whole first i e : ℕ) (part : Part) → i < whole / part.period → 
     get_or (edges_of whole first part) (i * length part.problem.edges + e) no_edge
     ≡ copied_edge (first_in first part i) (get_or part.problem.edges e no_edge)
 -- the edges of the instances before i are i pieces of one length, so the edge is in piece i at place e
-in_part whole first i e part l h =
-    let f = edges_in first part in
-    let xs = instances whole part in
+in_part whole first i e part instance_inside edge_inside =
+    let copied = edges_in first part in
+    let numbers = instances whole part in
     let size = length part.problem.edges in
-    let count : i < length xs = omega (arith, length-range_with_len 0 (whole / part.period), l) in
-    let here : get_or xs i 0 ≡ i = get_or-range_with_len 0 (whole / part.period) i 0 l ∙ nothing_before i in
-    let front : length (flat_map f (take i xs)) ≡ i * size =
-    constant_pieces f size (λ j. length-map part.problem.edges _) (take i xs)
-    ∙ ap (λ n. n * size) (take_count whole i part l) in
+    let count : i < length numbers = omega (arith, length-range_with_len 0 (whole / part.period), instance_inside) in
+    let here : get_or numbers i 0 ≡ i = get_or-range_with_len 0 (whole / part.period) i 0 instance_inside
+    ∙ nothing_before i in
+    let front : length (flat_map copied (take i numbers)) ≡ i * size =
+    constant_pieces copied size (λ j. length-map part.problem.edges _) (take i numbers)
+    ∙ ap (λ n. n * size) (take_count whole i part instance_inside) in
     ap (λ n. get_or (edges_of whole first part) (n + e) no_edge) (sym front)
-    ∙ get_or-flat_map f xs i e 0 no_edge count
-    (omega (arith, length-map part.problem.edges (copied_edge (first_in first part (get_or xs i 0))), h))
-    ∙ ap (λ j. get_or (f j) e no_edge) here
-    ∙ get_or-map (copied_edge (first_in first part i)) part.problem.edges e no_edge no_edge h
+    ∙ get_or-flat_map copied numbers i e 0 no_edge count
+    (omega (arith, length-map part.problem.edges (copied_edge (first_in first part (get_or numbers i 0))), edge_inside))
+    ∙ ap (λ j. get_or (copied j) e no_edge) here
+    ∙ get_or-map (copied_edge (first_in first part i)) part.problem.edges e no_edge no_edge edge_inside
 
 -- 0 may be left out of a sum
 drop_zero : (a b : ℕ) → 0 + a + b ≡ a + b
@@ -62,30 +63,31 @@ pub edge_copy_at : (whole first : ℕ) (parts : List Part) (p i e : ℕ) → IsI
     → get_or (edges_from whole first parts) (first_edge_of whole parts p i + e) no_edge
     ≡ copied_edge (first + first_process_of whole parts p i) (get_or (part_at parts p).problem.edges e no_edge)
 -- by induction on the parts
-edge_copy_at whole first [] p i e h l = absurd (omega (arith, h.part))
-edge_copy_at whole first (part ∷ parts) zero i e h l =
+edge_copy_at whole first [] p i e is_instance edge_inside = absurd (omega (arith, is_instance.part))
+edge_copy_at whole first (part ∷ parts) zero i e is_instance edge_inside =
     -- an edge of the first part's instances
-    let inside = within_pieces i (whole / part.period) (length part.problem.edges) e h.instance l in
+    let inside = within_pieces i (whole / part.period) (length part.problem.edges) e is_instance.instance edge_inside in
     get_or_append_left (edges_of whole first part) (edges_from whole (after_part whole first part) parts) no_edge
     (0 + i * length part.problem.edges + e)
     (omega (arith, edges_size whole first part, inside))
     ∙ ap (λ n. get_or (edges_of whole first part) n no_edge) (drop_zero (i * length part.problem.edges) e)
-    ∙ in_part whole first i e part h.instance l
+    ∙ in_part whole first i e part is_instance.instance edge_inside
     ∙ ap (λ n. copied_edge n (get_or part.problem.edges e no_edge)) (same_first first (i * size_of part))
-edge_copy_at whole first (part ∷ parts) (suc p) i e h l =
+edge_copy_at whole first (part ∷ parts) (suc p) i e is_instance edge_inside =
     -- an edge of a later part's, behind all of the first part's
     let size = edges_size whole first part in
-    let n = first_edge_of whole parts p i + e in
+    let number = first_edge_of whole parts p i + e in
     ap (λ m. get_or (edges_of whole first part ++ edges_from whole (after_part whole first part) parts) m no_edge)
     (moved (whole / part.period * length part.problem.edges) (edges_before whole parts p)
     (i * length (part_at parts p).problem.edges) e (length (edges_of whole first part)) size)
-    ∙ get_or-append-add (edges_of whole first part) (edges_from whole (after_part whole first part) parts) n no_edge
+    ∙ get_or-append-add (edges_of whole first part)
+    (edges_from whole (after_part whole first part) parts) number no_edge
     ∙ edge_copy_at whole (after_part whole first part) parts p i e
-    (record { part = omega (arith, h.part); instance = h.instance }) l
+    (record { part = omega (arith, is_instance.part); instance = is_instance.instance }) edge_inside
     ∙ ap (λ m. copied_edge m (get_or (part_at parts p).problem.edges e no_edge))
     (next_first first (whole / part.period * size_of part) (processes_before whole parts p) (i * size_of (part_at parts p)))
 
 -- each edge of an instance is the copy of its part's edge
 pub have_edges : InstancesHaveEdges
-have_edges whole parts p i e h l = edge_copy_at whole 0 parts p i e h l
+have_edges whole parts p i e is_instance edge_inside = edge_copy_at whole 0 parts p i e is_instance edge_inside
     ∙ ap (λ n. copied_edge n (edge_at (part_at parts p).problem e)) (nothing_before (first_process_of whole parts p i))

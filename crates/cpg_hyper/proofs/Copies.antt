@@ -16,13 +16,13 @@ use Rattle.cpg_hyper.proofs.Counted.{constant_pieces, processes_size}
 
 -- a product grows with its first factor
 pub product_le : (a b c : ℕ) → a ≤ b → a * c ≤ b * c
-product_le a b c h = grind (arith, common_steps)
+product_le a b c no_more = grind (arith, common_steps)
 
 -- a place in one of n pieces of one size lies within all of them
 pub within_pieces : (i n size q : ℕ) → i < n → q < size → i * size + q < n * size
-within_pieces i n size q l h =
-    let most : (i + 1) * size ≤ n * size = product_le (i + 1) n size (omega (arith, l)) in
-    omega (arith, most, h)
+within_pieces i n size q early inside =
+    let most : (i + 1) * size ≤ n * size = product_le (i + 1) n size (omega (arith, early)) in
+    omega (arith, most, inside)
 
 -- what an index past the end would show
 abbrev pub none : Process
@@ -42,26 +42,27 @@ none = record {
 
 -- i instances come before instance i
 pub take_count : (whole i : ℕ) (part : Part) → i < whole / part.period → length (take i (instances whole part)) ≡ i
-take_count whole i part l =
-    omega (arith, length-take i (instances whole part), length-range_with_len 0 (whole / part.period), l)
+take_count whole i part inside =
+    omega (arith, length-take i (instances whole part), length-range_with_len 0 (whole / part.period), inside)
 
 -- the copy of a process stands at its place among the processes of its part's instances
 in_part : (whole p i q : ℕ) (part : Part) → i < whole / part.period → q < size_of part →
     get_or (processes_of whole p part) (i * size_of part + q) none ≡ copied_process p i part
     (get_or part.problem.processes q none)
-in_part whole p i q part l h =
-    let f = processes_in p part in
-    let xs = instances whole part in
-    let count : i < length xs = omega (arith, length-range_with_len 0 (whole / part.period), l) in
-    let here : get_or xs i 0 ≡ i = get_or-range_with_len 0 (whole / part.period) i 0 l ∙ nothing_before i in
-    let front : length (flat_map f (take i xs)) ≡ i * size_of part =
-    constant_pieces f (size_of part) (λ j. length-map part.problem.processes _) (take i xs) ∙
-    ap (λ n. n * size_of part) (take_count whole i part l) in
+in_part whole p i q part instance_inside process_inside =
+    let copied = processes_in p part in
+    let numbers = instances whole part in
+    let count : i < length numbers = omega (arith, length-range_with_len 0 (whole / part.period), instance_inside) in
+    let here : get_or numbers i 0 ≡ i = get_or-range_with_len 0 (whole / part.period) i 0 instance_inside
+    ∙ nothing_before i in
+    let front : length (flat_map copied (take i numbers)) ≡ i * size_of part =
+    constant_pieces copied (size_of part) (λ j. length-map part.problem.processes _) (take i numbers) ∙
+    ap (λ n. n * size_of part) (take_count whole i part instance_inside) in
     ap (λ n. get_or (processes_of whole p part) (n + q) none) (sym front)
-    ∙ get_or-flat_map f xs i q 0 none count
-    (omega (arith, length-map part.problem.processes (copied_process p (get_or xs i 0) part), h))
-    ∙ ap (λ j. get_or (f j) q none) here
-    ∙ get_or-map (copied_process p i part) part.problem.processes q none none h
+    ∙ get_or-flat_map copied numbers i q 0 none count
+    (omega (arith, length-map part.problem.processes (copied_process p (get_or numbers i 0) part), process_inside))
+    ∙ ap (λ j. get_or (copied j) q none) here
+    ∙ get_or-map (copied_process p i part) part.problem.processes q none none process_inside
   where
     -- 0 is left out of a sum
     nothing_before : (n : ℕ) → 0 + n ≡ n
@@ -73,14 +74,14 @@ pub copy_at : (whole first : ℕ) (parts : List Part) (p i q : ℕ) → IsInstan
     → get_or (processes_from whole first parts) (processes_before whole parts p + i * size_of (part_at parts p) + q) none
     ≡ copied_process (first + p) i (part_at parts p)
     (get_or (part_at parts p).problem.processes q none)
-copy_at whole first [] p i q h l = absurd (omega (arith, h.part))
-copy_at whole first (part ∷ parts) zero i q h l =
+copy_at whole first [] p i q is_instance q_inside = absurd (omega (arith, is_instance.part))
+copy_at whole first (part ∷ parts) zero i q is_instance q_inside =
     let size = processes_size whole first part in
-    let inside = within_pieces i (whole / part.period) (size_of part) q h.instance l in
+    let inside = within_pieces i (whole / part.period) (size_of part) q is_instance.instance q_inside in
     get_or_append_left (processes_of whole first part) (processes_from whole (first + 1) parts) none
     (0 + i * size_of part + q) (omega (arith, size, inside))
     ∙ ap (λ n. get_or (processes_of whole first part) n none) (drop_zero (i * size_of part) q)
-    ∙ in_part whole first i q part h.instance l
+    ∙ in_part whole first i q part is_instance.instance q_inside
     ∙ ap (λ n. copied_process n i part (get_or part.problem.processes q none)) (same_sum first)
   where
     -- a 0 in front of two numbers adds nothing
@@ -90,20 +91,21 @@ copy_at whole first (part ∷ parts) zero i q h l =
     -- nothing is added at the end
     same_sum : (n : ℕ) → n ≡ n + 0
     same_sum n = omega arith
-copy_at whole first (part ∷ parts) (suc p) i q h l =
+copy_at whole first (part ∷ parts) (suc p) i q is_instance q_inside =
     let size = processes_size whole first part in
-    let n = processes_before whole parts p + i * size_of (part_at parts p) + q in
+    let number = processes_before whole parts p + i * size_of (part_at parts p) + q in
     ap (λ m. get_or (processes_of whole first part ++ processes_from whole (first + 1) parts) m none)
     (moved (whole / part.period * size_of part) (processes_before whole parts p) (i * size_of (part_at parts p)) q
     (length (processes_of whole first part)) size)
-    ∙ get_or-append-add (processes_of whole first part) (processes_from whole (first + 1) parts) n none
-    ∙ copy_at whole (first + 1) parts p i q (record { part = omega (arith, h.part); instance = h.instance }) l
+    ∙ get_or-append-add (processes_of whole first part) (processes_from whole (first + 1) parts) number none
+    ∙ copy_at whole (first + 1) parts p i q
+    (record { part = omega (arith, is_instance.part); instance = is_instance.instance }) q_inside
     ∙ ap (λ m. copied_process m i (part_at parts p) (get_or (part_at parts p).problem.processes q none))
     (next_sum first p)
   where
     -- a part's own processes, and then those before the copy
     moved : (own b c q all : ℕ) → all ≡ own → own + b + c + q ≡ all + (b + c + q)
-    moved own b c q all e = omega (arith, e)
+    moved own b c q all same = omega (arith, same)
 
     -- one more is counted on either side
     next_sum : (a b : ℕ) → a + 1 + b ≡ a + suc b
@@ -113,11 +115,11 @@ copy_at whole first (part ∷ parts) (suc p) i q h l =
 pub within_whole : (whole first : ℕ) (parts : List Part) (p i : ℕ) → IsInstance whole parts p i →
     first_process_of whole parts p i + size_of (part_at parts p) ≤ length (processes_from whole first parts)
 -- by induction on the parts
-within_whole whole first [] p i h = absurd (omega (arith, h.part))
+within_whole whole first [] p i is_instance = absurd (omega (arith, is_instance.part))
 -- an instance of the first part: its number is below the number of instances
-within_whole whole first (part ∷ parts) zero i h =
+within_whole whole first (part ∷ parts) zero i is_instance =
     let most : (i + 1) * size_of part ≤ whole / part.period * size_of part =
-    product_le (i + 1) (whole / part.period) (size_of part) (omega (arith, h.instance)) in
+    product_le (i + 1) (whole / part.period) (size_of part) (omega (arith, is_instance.instance)) in
     omega (
       arith,
       most,
@@ -125,17 +127,18 @@ within_whole whole first (part ∷ parts) zero i h =
       length-append (processes_of whole first part) (processes_from whole (first + 1) parts),
     )
 -- an instance of a later part
-within_whole whole first (part ∷ parts) (suc p) i h =
+within_whole whole first (part ∷ parts) (suc p) i is_instance =
     omega (
       arith,
-      within_whole whole (first + 1) parts p i (record { part = omega (arith, h.part); instance = h.instance }),
+      within_whole whole (first + 1) parts p i
+          (record { part = omega (arith, is_instance.part); instance = is_instance.instance }),
       processes_size whole first part,
       length-append (processes_of whole first part) (processes_from whole (first + 1) parts),
     )
 
 -- each process of an instance is the copy of its part's process
 pub are_copies : InstancesAreCopies
-are_copies whole parts p i q h l = copy_at whole 0 parts p i q h l
+are_copies whole parts p i q is_instance inside = copy_at whole 0 parts p i q is_instance inside
     ∙ ap (λ n. copied_process n i (part_at parts p) (process_at (part_at parts p).problem q)) (nothing_before p)
   where
     -- 0 is left out of a sum

@@ -24,8 +24,8 @@ pub made_within : (whole : ℕ) (parts : List Part) → 1 ≤ length parts → l
     → first ≡ first_graph parts → faults ≡ first.faults → nodes ≡ first.nodes → slots ≡ first.slots →
     ps ≡ processes_from whole 0 parts → es ≡ edges_from whole 0 parts
     → IsWithinLimits (record { faults = faults; deadline = whole; nodes = nodes; slots = slots; processes = ps; edges = es; order = None })
-made_within whole parts some few over within counts first faults nodes slots ps es is a b c d e =
-    rw (a, b, c, d, e, is) (unrolled_within whole parts some few over within counts)
+made_within whole parts some few over within counts first faults nodes slots ps es is f_is n_is s_is p_is e_is =
+    rw (f_is, n_is, s_is, p_is, e_is, is) (unrolled_within whole parts some few over within counts)
 
 -- the graph of the first part
 pub first_problem : (parts : List Part) (part : Part) → 1 ≤ length parts → part ≡ get_or parts 0 part →
@@ -36,19 +36,20 @@ first_problem parts part some is = ap (λ (d : Part). d.problem) is ∙ first_th
 pub count_is : (g : Graph) (es : List Edge) (n total : ℕ) → es ≡ g.edges → n ≡ process_count g →
     total ≡ length (filter (has_conditional_output es) (numbers_below n)) →
     total ≡ condition_count g
-count_is g es n total e k h =
-    h ∙ ap length (ap₂ (λ ds m. filter (has_conditional_output ds) (numbers_below m)) e k ∙ conditions_found g)
+count_is g es n total es_are n_is counted =
+    counted ∙ ap length (ap₂ (λ ds m. filter (has_conditional_output ds) (numbers_below m)) es_are n_is
+    ∙ conditions_found g)
 
 -- a fault in making the processes is a fault of unrolling, if there are few enough of each
 pub from_processes : (whole : ℕ) (parts : List Part) → AreOver parts whole → HasFewEnough (unrolled whole parts) →
     (f : HyperFault) → ShowsProcesses whole parts (Err f) →
     ShowsUnrolled parts (Err f)
 -- making the processes fails only for a long name or for memory
-from_processes whole parts over few (Range p) h = absurd h
-from_processes whole parts over few (Differ p) h = absurd h
-from_processes whole parts over few (Over p) h = absurd h
-from_processes whole parts over few Period h = absurd h
-from_processes whole parts over few (Count what) h = absurd h
-from_processes whole parts over few (LongName p) h = (whole, over, few, h)
-from_processes whole parts over few (Order p) h = absurd h
-from_processes whole parts over few OutOfMemory h = tt
+from_processes whole parts over few (Range p) shown = absurd shown
+from_processes whole parts over few (Differ p) shown = absurd shown
+from_processes whole parts over few (Over p) shown = absurd shown
+from_processes whole parts over few Period shown = absurd shown
+from_processes whole parts over few (Count what) shown = absurd shown
+from_processes whole parts over few (LongName p) shown = (whole, over, few, shown)
+from_processes whole parts over few (Order p) shown = absurd shown
+from_processes whole parts over few OutOfMemory shown = tt

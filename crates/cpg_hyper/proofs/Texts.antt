@@ -16,28 +16,28 @@ IsDigit b = (48 ≤ b) × (b ≤ 57)
 
 -- every fact holds of all elements of the empty list
 all_nil : {X : Type 0} (P : X → Type 0) → All P []
-all_nil P k d l = absurd (omega arith)
+all_nil P k d inside = absurd (omega arith)
 
 -- a fact of one element holds of all elements of the list of this one
 all_one : {X : Type 0} (P : X → Type 0) (x : X) → P x → All P (x ∷ [])
-all_one P x h zero d l = h
-all_one P x h (suc k) d l = absurd (omega (arith, l))
+all_one P x holds zero d inside = holds
+all_one P x holds (suc k) d inside = absurd (omega (arith, inside))
 
 -- the decimal text of a number has digits alone
 pub digits_only : (n : ℕ) → n < 2 ^ 64 → All IsDigit (decimal n)
-digits_only n h = decimal_by_steps (λ n ds. All IsDigit ds)
-    (λ n l. all_one IsDigit (48 + n) (omega arith, omega (arith, l)))
+digits_only n small = decimal_by_steps (λ n ds. All IsDigit ds)
+    (λ n below_ten. all_one IsDigit (48 + n) (omega arith, omega (arith, below_ten)))
     (λ n ds l p.
     All-append IsDigit ds ((48 + n % 10) ∷ []) p (all_one IsDigit (48 + n % 10) (omega arith, omega arith)))
-    n h
+    n small
 
 -- a digit may stand in a name
 digit_in_name : (b : ℕ) → IsDigit b → IsTrue (is_name_byte b)
-digit_in_name b h = search (le-leb 48 b h.0, le-leb b 57 h.1, rules)
+digit_in_name b is_digit = search (le-leb 48 b is_digit.0, le-leb b 57 is_digit.1, rules)
 
 -- a weaker fact holds of all elements too
 all_weaker : {X : Type 0} (P R : X → Type 0) (xs : List X) → ((x : X) → P x → R x) → All P xs → All R xs
-all_weaker P R xs f h k d l = f (get_or xs k d) (h k d l)
+all_weaker P R xs weaker all_hold k d inside = weaker (get_or xs k d) (all_hold k d inside)
 
 -- a point may stand in a name
 point : All (λ b. IsTrue (is_name_byte b)) (codes ".")
@@ -53,14 +53,14 @@ made_is p i name = append_assoc ((decimal p ++ codes ".") ++ decimal i) (codes "
 pub made_plain : (p i : ℕ) (name : List ℕ) → p < 2 ^ 64 → i < 2 ^ 64 → IsName name →
     All (λ b. IsTrue (is_name_byte b)) (name_in p i name)
 -- a made name is put together from the end: the name, a point, the instance's digits, a point and the part's digits
-made_plain p i name hp hi h =
+made_plain p i name p_small i_small is_name =
     let plain : ℕ → Type 0 = λ b. IsTrue (is_name_byte b) in
-    let last = All-append plain (codes ".") name point h.plain in
+    let last = All-append plain (codes ".") name point is_name.plain in
     let rest = All-append plain (decimal i) (46 ∷ name)
-    (all_weaker IsDigit plain (decimal i) digit_in_name (digits_only i hi)) last in
+    (all_weaker IsDigit plain (decimal i) digit_in_name (digits_only i i_small)) last in
     let after = All-append plain (codes ".") (decimal i ++ (46 ∷ name)) point rest in
     subst (All plain) (sym (made_is p i name)) (All-append plain (decimal p) (46 ∷ (decimal i ++ (46 ∷ name)))
-    (all_weaker IsDigit plain (decimal p) digit_in_name (digits_only p hp)) after)
+    (all_weaker IsDigit plain (decimal p) digit_in_name (digits_only p p_small)) after)
 
 -- a made name isn't empty
 pub made_some : (p i : ℕ) (name : List ℕ) → 1 ≤ length (name_in p i name)
@@ -71,10 +71,11 @@ made_some p i name =
 pub long_name : (p i : ℕ) (name : List ℕ) → p < 2 ^ 64 → i < 2 ^ 64 → IsName name → (IsName (name_in p i name) → ⊥) →
     32 < length (name_in p i name)
 -- by whether 32 is below `length (name_in p i name)`
-long_name p i name hp hi h not_name = ⊎_elim
+long_name p i name p_small i_small is_name not_name = ⊎_elim
     (λ (long : 32 < length (name_in p i name)). long)
     (λ (short : length (name_in p i name) ≤ 32).
-    absurd (not_name (record { some = made_some p i name; short = short; plain = made_plain p i name hp hi h })))
+    absurd (not_name
+    (record { some = made_some p i name; short = short; plain = made_plain p i name p_small i_small is_name })))
     (cases_lt 32 (length (name_in p i name)))
 
 -- a text that isn't taken as a name is a made name that is too long
@@ -82,9 +83,9 @@ pub long_if : {E : Type 0} (r : Result (Option (List ℕ)) E) (text made : List 
     IfOk r (λ r. IfNone r (IsName text → ⊥)) → text ≡ made →
     ((IsName made → ⊥) → 32 < length made) →
     IfOk r (λ r. IfNone r (32 < length made))
-long_if (Ok (Some name)) text made h is f = tt
-long_if (Ok None) text made h is f = f (subst (λ t. IsName t → ⊥) is h)
-long_if (Err e) text made h is f = tt
+long_if (Ok (Some name)) text made not_name is long = tt
+long_if (Ok None) text made not_name is long = long (subst (λ t. IsName t → ⊥) is not_name)
+long_if (Err e) text made not_name is long = tt
 
 -- ---- names differ
 
@@ -98,22 +99,29 @@ no_point : (xs ys us vs : List ℕ) → All IsDigit xs → All IsDigit ys → xs
     (xs ≡ ys) × (us ≡ vs)
 unfolding tail
 -- by induction on the numbers
-no_point [] [] us vs h k e = (refl, ap tail e)
-no_point [] (y ∷ ys) us vs h k e = absurd (omega (arith, (k 0 y (omega arith)).0, ap (λ cs. get_or cs 0 0) e))
-no_point (x ∷ xs) [] us vs h k e =
-    absurd (omega (arith, (h 0 x (omega arith)).0, (h 0 x (omega arith)).0, ap (λ cs. get_or cs 0 0) e))
-no_point (x ∷ xs) (y ∷ ys) us vs h k e =
-    let first : x ≡ y = ap (λ cs. get_or cs 0 0) e in
-    let (rest, after) = no_point xs ys us vs (λ j d l. h (suc j) d (omega (arith, l)))
-    (λ j d l. k (suc j) d (omega (arith, l))) (ap tail e) in
+no_point [] [] us vs xs_digits ys_digits equal = (refl, ap tail equal)
+no_point [] (y ∷ ys) us vs xs_digits ys_digits equal =
+    absurd (omega (arith, (ys_digits 0 y (omega arith)).0, ap (λ cs. get_or cs 0 0) equal))
+no_point (x ∷ xs) [] us vs xs_digits ys_digits equal =
+    absurd (omega (
+      arith,
+      (xs_digits 0 x (omega arith)).0,
+      (xs_digits 0 x (omega arith)).0,
+      ap (λ cs. get_or cs 0 0) equal,
+    ))
+no_point (x ∷ xs) (y ∷ ys) us vs xs_digits ys_digits equal =
+    let first : x ≡ y = ap (λ cs. get_or cs 0 0) equal in
+    let (rest, after) = no_point xs ys us vs (λ j d inside. xs_digits (suc j) d (omega (arith, inside)))
+    (λ j d inside. ys_digits (suc j) d (omega (arith, inside))) (ap tail equal) in
     (rw (first, rest) refl, after)
 
 -- equal made names are of the same part and instance, and of equal names
 pub same_copy : (p i q j : ℕ) (a b : List ℕ) → p < 2 ^ 64 → i < 2 ^ 64 → q < 2 ^ 64 → j < 2 ^ 64 →
     name_in p i a ≡ name_in q j b →
     (p ≡ q) × (i ≡ j) × (a ≡ b)
-same_copy p i q j a b hp hi hq hj e =
+same_copy p i q j a b p_small i_small q_small j_small equal =
     let (parts, rest) = no_point (decimal p) (decimal q) (decimal i ++ (46 ∷ a)) (decimal j ++ (46 ∷ b))
-    (digits_only p hp) (digits_only q hq) (sym (made_is p i a) ∙ e ∙ made_is q j b) in
-    let (instances, names) = no_point (decimal i) (decimal j) a b (digits_only i hi) (digits_only j hj) rest in
-    (decimal_injective p q hp hq parts, decimal_injective i j hi hj instances, names)
+    (digits_only p p_small) (digits_only q q_small) (sym (made_is p i a) ∙ equal ∙ made_is q j b) in
+    let (instances, names) = no_point (decimal i) (decimal j) a b (digits_only i i_small)
+    (digits_only j j_small) rest in
+    (decimal_injective p q p_small q_small parts, decimal_injective i j i_small j_small instances, names)

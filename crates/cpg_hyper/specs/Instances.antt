@@ -14,7 +14,9 @@ part_at parts p = get_or parts p (record { period = 0; problem = first_graph [] 
 
 -- there is a part p, and it has an instance i within the whole
 pub record IsInstance (whole : ℕ) (parts : List Part) (p i : ℕ) : Type 0 where
+  -- p is the number of a part
   pub part : p < length parts
+  -- i is the number of one of its instances
   pub instance : i < whole / (part_at parts p).period
 
 -- how many processes of the whole graph come before those of part p: those of all instances of the parts before it

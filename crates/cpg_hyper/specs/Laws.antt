@@ -83,7 +83,9 @@ InstancesAreLiveAlike =
 -- An execution of process q in instance i of a part keeps to its period: it starts at the release or later, and ends by the
 -- due, both counted from the beginning of the instance.
 pub record KeepsPeriod (part : Part) (i q start end : ℕ) : Type 0 where
+  -- the start is no earlier than the release
   pub released : i * part.period + (process_at part.problem q).release ≤ start
+  -- the end is no later than the due
   pub ended : end ≤ i * part.period + due part.problem q
 
 -- valid tables have a start for each process of an instance that is active

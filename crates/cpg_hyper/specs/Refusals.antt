@@ -16,7 +16,9 @@ use Rattle.cpg_hyper.specs.Unrolled.{unrolled, first_graph, name_in, processes_f
 
 -- the period of a part is from 1 to the longest time
 pub record IsInRange (part : Part) : Type 0 where
+  -- the period is not 0
   pub some : 1 ≤ part.period
+  -- the period is at most the longest time
   pub short : part.period ≤ LONGEST
 
 -- a part has the same faults, nodes and slots as the graph g
@@ -27,7 +29,9 @@ pub record IsAlike (g : Graph) (part : Part) : Type 0 where
 
 -- the deadline and all releases of a part are within its period
 pub record FitsPeriod (part : Part) : Type 0 where
+  -- the deadline of its graph
   pub deadline : part.problem.deadline ≤ part.period
+  -- the release of each of its processes
   pub releases : All (λ q. q.release ≤ part.period) part.problem.processes
 
 -- the name that each process of part p gets in each instance has at most 32 bytes, as names in a graph file do

@@ -14,8 +14,8 @@ use Rattle.cpg_hyper.specs.declared.part.Part.{Part}
 abbrev pub name_in : ℕ → ℕ → List ℕ → List ℕ
 name_in p i name = decimal p ++ codes "." ++ decimal i ++ codes "." ++ name
 
--- The copy of process q in instance i of part p. Its release and its deadline, which is the lesser of its own and the part's,
--- count from the beginning of the instance.
+-- The copy of process q in instance i of part p. It has the release of q and, as its deadline, the lesser of q's own
+-- and the part's, both later by the periods before the instance.
 abbrev pub copied_process : ℕ → ℕ → Part → Process → Process
 copied_process p i part q = record q {
   name = name_in p i q.name;
@@ -31,7 +31,7 @@ copied_edge first e = record e { from = first + e.from; to = first + e.to }
 abbrev pub size_of : Part → ℕ
 size_of part = length part.problem.processes
 
--- the instances of a part
+-- the numbers of a part's instances: one for each of its periods within the whole
 abbrev pub instances : ℕ → Part → List ℕ
 instances whole part = numbers_below (whole / part.period)
 

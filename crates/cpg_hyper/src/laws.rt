@@ -26,17 +26,20 @@ pub fn instances_have_conditions()
     ensures { InstancesHaveConditions }
 {}
 
-/// Law: if there is a topological order, a process of an instance is activated as the part's process is.
+/// Law: if the graph of all instances has a topological order, a process of an instance is activated as the part's
+/// process is, in what the scenario is for the instance.
 pub fn instances_are_activated_alike()
     ensures { InstancesAreActivatedAlike }
 {}
 
-/// Law: if there is a topological order, a process of an instance is active exactly if the part's process is.
+/// Law: if the graph of all instances has a topological order, a process of an instance is active exactly if the part's
+/// process is, in what the scenario is for the instance.
 pub fn instances_are_active_alike()
     ensures { InstancesAreActiveAlike }
 {}
 
-/// Law: if there is a topological order, an edge of an instance is live exactly if the part's edge is.
+/// Law: if the graph of all instances has a topological order, an edge of an instance is live exactly if the part's
+/// edge is, in what the scenario is for the instance.
 pub fn instances_are_live_alike()
     ensures { InstancesAreLiveAlike }
 {}

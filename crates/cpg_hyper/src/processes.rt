@@ -10,7 +10,7 @@ use crate::{HyperFault, Part};
 use cpg_base::{LONGEST, Name, OutOfMemory, Process};
 use std::alloc::Global;
 
-/// Returns the name that a process gets in an instance, as a text of any length.
+/// Returns the name that a process gets in an instance, as a text of any length. `number` is the part's number.
 fn made_text(alloc: Global, number: u32, instance: u64, name: &Name) -> Result<String, OutOfMemory>
     ensures text { IfOk result (λ text. string_bytes text ≡ name_in number instance name.now) }
     ensures name { IfOk result (λ text. IsName name.now) }
@@ -22,6 +22,7 @@ fn made_text(alloc: Global, number: u32, instance: u64, name: &Name) -> Result<S
 }
 
 /// Returns the name that a process gets in an instance; `None` exactly if it is too long. The one error is `OutOfMemory`.
+/// `number` is the part's number.
 fn copied_name(
     alloc: Global,
     number: u32,
@@ -49,6 +50,7 @@ fn due_of(process: &Process, deadline: u64) -> u64
 }
 
 /// Returns the copy of a process in an instance; `None` exactly if its name is too long. The one error is `OutOfMemory`.
+/// `number` is the part's number.
 fn copied_process(
     alloc: Global,
     number: u32,
@@ -84,7 +86,7 @@ fn copied_process(
 }
 
 /// Adds the processes of an instance, and returns true; false exactly if some name is too long, and then nothing is said of
-/// what was added.
+/// what was added. `number` is the part's number.
 fn add_instance(
     alloc: Global,
     out: &mut Vec<Process>,
@@ -99,7 +101,7 @@ fn add_instance(
     for process in part.problem.processes() {
         match copied_process(alloc, number, instance, part, process)? {
             Some(copy) => out.push(copy)?,
-            // the first name that is too long ends it
+            // the first name that is too long ends the loop
             None => return Ok(false),
         }
     }
@@ -107,7 +109,7 @@ fn add_instance(
 }
 
 /// Adds the processes of all instances of a part, and returns true; false exactly if some name is too long, and then nothing
-/// is said of what was added.
+/// is said of what was added. `whole` is the hyperperiod, and `number` the part's number.
 fn add_part(
     alloc: Global,
     out: &mut Vec<Process>,

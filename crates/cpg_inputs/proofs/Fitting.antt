@@ -25,13 +25,13 @@ IsValueOf l v = Unit {0}
 
 -- the scenario `p` that `bytes`, as a scenario file, say for graph `g` is one of `g`
 played_fits : (g : Graph) (bytes : Text) (p : Played) → Says (Some g) ScenarioFile bytes (played_value p) → IsPlayed g p
-played_fits g bytes p (q, e, are) =
-    let same : q ≡ p = subst (IsAlike (played_value p)) e refl in subst (IsPlayed g) same are.lawful
+played_fits g bytes p (q, value_is, are) =
+    let same : q ≡ p = subst (IsAlike (played_value p)) value_is refl in subst (IsPlayed g) same are.lawful
 
 -- the log `l` that `bytes`, as a log file, say for graph `g` is one of `g`
 log_fits : (g : Graph) (bytes : Text) (l : Log) → Says (Some g) LogFile bytes (log_value l) → IsLog g l
-log_fits g bytes l (m, e, are) =
-    let same : m ≡ l = subst (IsValueOf l) e refl in subst (IsLog g) same are.lawful
+log_fits g bytes l (heard, value_is, are) =
+    let same : heard ≡ l = subst (IsValueOf l) value_is refl in subst (IsLog g) same are.lawful
 
 -- the scenario of `play` is of the graph before it
 play_fits : (a : Admission) (t : Tables) (p : Played) (graph pack scenario : Text) (turns : ℕ) (past now : List Fetch) →

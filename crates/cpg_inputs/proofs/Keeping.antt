@@ -15,9 +15,9 @@ module _ (old mid new : ShelfState) (a : KeepsShelf old mid) (b : KeepsShelf mid
   counted_rose fetch past is failed = elim (b.rose fetch past is failed) [
     | inl same ↦ elim (a.rose fetch past (sym same ∙ is) failed) [
       | inl before ↦ inl (same ∙ before)
-      | inr up ↦ inr (let l = b.later in omega (arith, l, up))
+      | inr up ↦ inr (let new_later = b.later in omega (arith, new_later, up))
     ]
-    | inr up ↦ inr (let l = a.later in omega (arith, l, up))
+    | inr up ↦ inr (let mid_later = a.later in omega (arith, mid_later, up))
   ]
 
   -- a shelf that is kept in two steps is kept in both together
@@ -25,7 +25,7 @@ module _ (old mid new : ShelfState) (a : KeepsShelf old mid) (b : KeepsShelf mid
   keeps_on = record {
     names = λ name. b.names name ∙ a.names name;
     fetched = fetched_on old mid a.names new a.fetched b.fetched;
-    later = (let l = a.later in let m = b.later in omega (arith, l, m));
+    later = (let mid_later = a.later in let new_later = b.later in omega (arith, mid_later, new_later));
     rose = counted_rose;
   }
 

@@ -33,10 +33,10 @@ values_more (p ∷ ps) qs = ap (λ vs. part_value p.problem ∷ vs) (values_more
 -- if parts `ds` have the periods of pairs `ps`, they have with part `d` and its pair `p` at the ends
 periods_more : (ps : List Pair) (ds : List Part) (p : Pair) (d : Part) → HavePeriods ps ds → d.period ≡ p.period →
     HavePeriods (ps ++ p ∷ []) (ds ++ d ∷ [])
-periods_more [] [] p d have e = (e, tt)
-periods_more [] (x ∷ ds) p d have e = absurd have
-periods_more (q ∷ ps) [] p d have e = absurd have
-periods_more (q ∷ ps) (x ∷ ds) p d have e = (have.0, periods_more ps ds p d have.1 e)
+periods_more [] [] p d have same = (same, tt)
+periods_more [] (x ∷ ds) p d have same = absurd have
+periods_more (q ∷ ps) [] p d have same = absurd have
+periods_more (q ∷ ps) (x ∷ ds) p d have same = (have.0, periods_more ps ds p d have.1 same)
 
 -- parts' graphs aren't admitted, so after them later files are still read for no graph
 behind_parts : (ds : List Part) → graph_behind None (part_values ds) ≡ None
@@ -57,12 +57,12 @@ abbrev part_of : ℕ → Graph → Part
 part_of period problem = record { period = period; problem = problem }
 
 -- the next pair of a period and a file, after the files before it were read
-module _ (pairs : List Pair) (i : ℕ) (pair : Pair) (l : i < length pairs) (is : pair ≡ get_or pairs i pair)
+module _ (pairs : List Pair) (i : ℕ) (pair : Pair) (inside : i < length pairs) (is : pair ≡ get_or pairs i pair)
     (parts : List Part) (past mid now : List Fetch)
     (read : Reads None (part_files (take i pairs)) past mid (part_values parts)) where
   -- the pairs up to the next one
   next : take (i + 1) pairs ≡ take i pairs ++ pair ∷ []
-  next = take_more pairs i pair l ∙ ap (λ p. take i pairs ++ p ∷ []) (sym is)
+  next = take_more pairs i pair inside ∙ ap (λ p. take i pairs ++ p ∷ []) (sym is)
 
   -- their files, with the next one's file last
   files_next : part_files (take (i + 1) pairs) ≡ part_files (take i pairs) ++ file PartFile pair.graph ∷ []
@@ -80,30 +80,30 @@ module _ (pairs : List Pair) (i : ℕ) (pair : Pair) (l : i < length pairs) (is 
   pub read_next : (g : Graph) (new : List Part) → ReadsNext None (file PartFile pair.graph) mid now (part_value g) →
       new ≡ parts ++ part_of pair.period g ∷ [] →
       Reads None (part_files (take (i + 1) pairs)) past now (part_values new)
-  read_next g new r e =
+  read_next g new was_read added =
       let one = subst (λ o. Reads o (file PartFile pair.graph ∷ []) mid now (part_value g ∷ []))
-      (sym (behind_parts parts)) (reads_one None (file PartFile pair.graph) mid now (part_value g) r) in
+      (sym (behind_parts parts)) (reads_one None (file PartFile pair.graph) mid now (part_value g) was_read) in
       let both = reads_more None (part_files (take i pairs)) (file PartFile pair.graph ∷ []) past mid now
       (part_values parts) (part_value g ∷ []) read one in
       subst (λ fs. Reads None fs past now (part_values new)) (sym files_next)
       (subst (Reads None (part_files (take i pairs) ++ file PartFile pair.graph ∷ []) past now)
-      (sym (ap part_values e ∙ values_more parts (part_of pair.period g ∷ []))) both)
+      (sym (ap part_values added ∙ values_more parts (part_of pair.period g ∷ []))) both)
 
   -- with the part of the next pair added, the parts have the periods of one pair more
   pub periods_next : (g : Graph) (new : List Part) → HavePeriods (take i pairs) parts →
       new ≡ parts ++ part_of pair.period g ∷ [] →
       HavePeriods (take (i + 1) pairs) new
-  periods_next g new have e = subst (λ ps. HavePeriods ps new) (sym next)
-      (subst (HavePeriods (take i pairs ++ pair ∷ [])) (sym e)
+  periods_next g new have added = subst (λ ps. HavePeriods ps new) (sym next)
+      (subst (HavePeriods (take i pairs ++ pair ∷ [])) (sym added)
       (periods_more (take i pairs) parts pair (part_of pair.period g) have refl))
 
   -- If the file of the next pair stops the run, it stops the reading of all files: those before it were read, and those
   -- after it aren't fetched.
   pub stops_next : (h : Halt) → StopsNext None (file PartFile pair.graph) mid now h →
       StopsReading None (part_files pairs) past now h
-  stops_next h s =
+  stops_next h stops =
       let one = subst (λ o. StopsReading o (file PartFile pair.graph ∷ []) mid now h) (sym (behind_parts parts))
-      (stops_one None (file PartFile pair.graph) [] mid now h s) in
+      (stops_one None (file PartFile pair.graph) [] mid now h stops) in
       let here = stops_after None (part_files (take i pairs)) (file PartFile pair.graph ∷ []) past mid now
       (part_values parts) h read one in
       subst (λ fs. StopsReading None fs past now h) (sym files_all) (stops_more None (part_files (take i pairs)
@@ -114,32 +114,37 @@ module _ (pairs : List Pair) (i : ℕ) (pair : Pair) (l : i < length pairs) (is 
   pub wants_next : (g : Graph) (h : Halt) → ReadsNext None (file PartFile pair.graph) mid now (part_value g) →
       h ≡ Memory →
       StopsReading None (part_files pairs) past now h
-  wants_next g h r e =
-      let w = r.read.whole in
+  wants_next g h was_read is_memory =
+      let fetched = was_read.read.whole in
       stops_next h (record {
-        fetch = r.fetch;
+        fetch = was_read.fetch;
         stops =
-            inr (inr (inr (record { of = record { named = w.named }; sound = w.sound; few = (let s = w.short in omega (arith, s)); halt_is = e })));
-        history = r.history;
+            inr (inr (inr (record {
+              of = record { named = fetched.named };
+              sound = fetched.sound;
+              few = (let is_short = fetched.short in omega (arith, is_short));
+              halt_is = is_memory;
+            })));
+        history = was_read.history;
       })
 
 -- past the last pair, the files of all pairs were read
 pub read_all : (pairs : List Pair) (i : ℕ) (parts : List Part) (past now : List Fetch) → length pairs ≤ i →
     Reads None (part_files (take i pairs)) past now (part_values parts) →
     Reads None (part_files pairs) past now (part_values parts)
-read_all pairs i parts past now l read =
-    subst (λ ps. Reads None (part_files ps) past now (part_values parts)) (take_all i pairs l) read
+read_all pairs i parts past now past_last read =
+    subst (λ ps. Reads None (part_files ps) past now (part_values parts)) (take_all i pairs past_last) read
 
 -- past the last pair, the parts have the periods of all pairs
 pub periods_all : (pairs : List Pair) (i : ℕ) (parts : List Part) → length pairs ≤ i →
     HavePeriods (take i pairs) parts →
     HavePeriods pairs parts
-periods_all pairs i parts l have = subst (λ ps. HavePeriods ps parts) (take_all i pairs l) have
+periods_all pairs i parts past_last have = subst (λ ps. HavePeriods ps parts) (take_all i pairs past_last) have
 
 -- if the files of all `pairs` may be fetched, so may that of `pair`, which is pair `i`
 pub may_at : (may : Text → Type 0) (pairs : List Pair) (i : ℕ) (pair : Pair) → i < length pairs →
     pair ≡ get_or pairs i pair → All may (map (λ (p : Pair). p.graph) pairs) → may pair.graph
-may_at may pairs i pair l is all =
+may_at may pairs i pair inside is all =
     let named : get_or (map (λ (p : Pair). p.graph) pairs) i pair.graph ≡ pair.graph =
-    get_or-map (λ (p : Pair). p.graph) pairs i pair pair.graph l ∙ ap (λ (p : Pair). p.graph) (sym is) in
-    subst may named (all i pair.graph (omega (arith, length-map pairs (λ (p : Pair). p.graph), l)))
+    get_or-map (λ (p : Pair). p.graph) pairs i pair pair.graph inside ∙ ap (λ (p : Pair). p.graph) (sym is) in
+    subst may named (all i pair.graph (omega (arith, length-map pairs (λ (p : Pair). p.graph), inside)))

@@ -48,7 +48,7 @@ stop_sound g f fetch h (inr (inr (inr wanting))) = inl wanting.sound
 pub stops_sound : (g : Option Graph) (files : List File) (past now : List Fetch) (h : Halt) →
     StopsReading g files past now h →
     AreSound past now ⊎ (h ≡ Read)
-stops_sound g [] past now h s = absurd s
+stops_sound g [] past now h stops = absurd stops
 stops_sound g (f ∷ fs) past now h (fetch, inl here) = elim (stop_sound g f fetch h here.0) [
   | inl one ↦ inl (sound_on fetch past now one (sound_none (fetch ∷ past) now here.1))
   | inr read ↦ inr read

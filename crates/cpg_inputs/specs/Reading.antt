@@ -10,10 +10,12 @@ use Rattle.cpg_inputs.specs.Says.{Value, graph_after, Says, Refuses}
 
 -- the fetch is of this file
 pub record IsFetchOf (file : File) (fetch : Fetch) : Type 0 where
+  -- it was made with the file's name
   pub named : fetch.name ≡ file.name
 
 -- the fetch gave the whole file, within its limit
 pub record IsWhole (file : File) (fetch : Fetch) : Type 0 where
+  -- it was made with the file's name
   pub named : fetch.name ≡ file.name
   -- it came to the end of the file
   pub ended : fetch.ended ≡ true

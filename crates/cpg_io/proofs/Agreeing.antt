@@ -21,19 +21,19 @@ on_some (Some whole) P Q f p = f whole p
 
 -- if nothing is left before a piece is given, nothing is left after it
 none_left : (piece rest : List ℕ) → [] ≡ piece ++ rest → rest ≡ []
-none_left [] rest e = sym e
-none_left (x ∷ xs) rest e = absurd (cc e)
+none_left [] rest is = sym is
+none_left (x ∷ xs) rest is = absurd (cc is)
 
 -- if the first n bytes of a buffer that isn't empty are none, n is 0
 none_read : (n : ℕ) (buf : List ℕ) → 0 < length buf → is_none (take n buf) ≡ true → n ≡ 0
-none_read zero buf some e = refl
-none_read (suc n) [] some e = absurd (omega (arith, some))
-none_read (suc n) (b ∷ bs) some e = absurd (true≢false (sym e))
+none_read zero buf some is_true = refl
+none_read (suc n) [] some is_true = absurd (omega (arith, some))
+none_read (suc n) (b ∷ bs) some is_true = absurd (true≢false (sym is_true))
 
 -- what follows from each of two tests follows if one of them passes
 either_end : (a b : Bool) (P : Type 0) → (a ≡ true → P) → (b ≡ true → P) → (a || b) ≡ true → P
-either_end true b P f g e = f refl
-either_end false b P f g e = g e
+either_end true b P a_each b_each is_true = a_each refl
+either_end false b P a_each b_each is_true = b_each is_true
 
 -- if a file is at its end, it is so after one more piece, which can only be empty
 end_on : (whole given piece : List ℕ) (left rest : Option (List ℕ)) → Consumes (Some whole) left given →
@@ -103,10 +103,11 @@ module _ (old new : ShelfState) (names : SameNames old new) where
   -- after a fetch that didn't fail what is left is the rest of it, as it has given nothing yet
   pub fetch_rest : (name : List ℕ) → new.history ≡ opened name false old.history → StartsAt (old.stands name) new.left →
       LeavesRest new
-  fetch_rest name is s =
-      let f : Fetch = record { name = name; given = []; ended = false; failed = false } in
-      subst (IsRestLeft new) (sym is) (subst (λ told. IfSome told (λ whole. IsLeft whole new.left f)) (sym (names name))
-      (starts (old.stands name) f refl refl s))
+  fetch_rest name is starts_there =
+      let fetched : Fetch = record { name = name; given = []; ended = false; failed = false } in
+      subst (IsRestLeft new) (sym is) (subst (λ told. IfSome told (λ whole. IsLeft whole new.left fetched))
+      (sym (names name))
+      (starts (old.stands name) fetched refl refl starts_there))
 
   -- ---- what was fetched
 
@@ -151,11 +152,12 @@ unfetched (Some whole) f none unended = record {
 pub fetched_none : (old new : ShelfState) (name : List ℕ) → new.history ≡ opened name true old.history →
     AreFetched old new
 fetched_none old new name is =
-    let f : Fetch = record { name = name; given = []; ended = false; failed = true } in
+    let failed_fetch : Fetch = record { name = name; given = []; ended = false; failed = true } in
     record {
-      fetches = f ∷ [];
+      fetches = failed_fetch ∷ [];
       history = is;
-      agree = All-cons (Agrees old.stands) f [] (unfetched (old.stands name) f refl refl) (All-nil (Agrees old.stands));
+      agree = All-cons (Agrees old.stands) failed_fetch [] (unfetched (old.stands name) failed_fetch refl refl)
+          (All-nil (Agrees old.stands));
     }
 
 -- a shelf that is the same has no new fetches

@@ -82,35 +82,36 @@ stands_in-set_other other (x ∷ files) (suc place) d file old new =
 
 -- if nothing is found in a list, its first element doesn't pass, and nothing is found in the rest
 none_rest : (b : Bool) (i : ℕ) (rest : Option ℕ) → cond b (Some i) rest ≡ None → (b ≡ false) × (rest ≡ None)
-none_rest true i rest h = absurd (cc h)
-none_rest false i rest h = (refl, h)
+none_rest true i rest is = absurd (cc is)
+none_rest false i rest is = (refl, is)
 
 -- a search that counts from i on and finds no place meets no file with the name: by induction on the files
 none_from : (name : List ℕ) (files : List File) (i : ℕ) → position_from (is_named name) i files ≡ None →
     stands_in files name ≡ None
-none_from name [] i h = refl
-none_from name (file ∷ files) i h =
-    let rest = none_rest (is_named name file) i _ h in
+none_from name [] i is = refl
+none_from name (file ∷ files) i is =
+    let rest = none_rest (is_named name file) i _ is in
     stands_in-passed name file files rest.0 ∙ none_from name files (i + 1) rest.1
 
 -- if no file has the name, nothing stands under it
 pub stands_in-no_place : (name : List ℕ) (files : List File) → position (is_named name) files ≡ None →
     stands_in files name ≡ None
-stands_in-no_place name files h = none_from name files 0 (sym (position_from-zero (is_named name) files) ∙ h)
+stands_in-no_place name files is = none_from name files 0 (sym (position_from-zero (is_named name) files) ∙ is)
 
 -- a step of the next lemma: the first file doesn't have the name, so what holds of the rest holds of all
 none_passed : (b : Bool) (bytes : List ℕ) (rest longer goal : Option (List ℕ)) → (rest ≡ None → longer ≡ goal) →
     cond b (Some bytes) rest ≡ None →
     cond b (Some bytes) longer ≡ goal
-none_passed true bytes rest longer goal f h = absurd (cc h)
-none_passed false bytes rest longer goal f h = f h
+none_passed true bytes rest longer goal each is = absurd (cc is)
+none_passed false bytes rest longer goal each is = each is
 
 -- if nothing stands under a name, what stands there after a file is added is what that file puts there: by induction on the
 -- files
 stands_in-push : (name : List ℕ) (files : List File) (file : File) → stands_in files name ≡ None →
     stands_in (files ++ file ∷ []) name ≡ stands_in (file ∷ []) name
-stands_in-push name [] file h = refl
-stands_in-push name (x ∷ files) file h = none_passed (is_named name x) x.bytes _ _ _ (stands_in-push name files file) h
+stands_in-push name [] file is = refl
+stands_in-push name (x ∷ files) file is = none_passed (is_named name x) x.bytes _ _ _
+    (stands_in-push name files file) is
 
 -- a file that is added at the end leaves what stands under a name that it doesn't have: by induction on the files
 stands_in-push_other : (other : List ℕ) (files : List File) (file : File) → is_named other file ≡ false →

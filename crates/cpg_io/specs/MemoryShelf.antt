@@ -14,7 +14,7 @@ pub record File : Type 0 where
 
 -- a shelf in memory
 pub record MemoryShelfState : Type 0 where
-  -- the files, each name once
+  -- the files; of several with one name, the first is the one that stands under it
   pub files : List File
   -- the bytes that are left of the fetched file; none if no file is fetched
   pub left : List ℕ

@@ -35,6 +35,6 @@ pub record KeepsShelf (old new : ShelfState) : Type 0 where
   pub fetched : AreFetched old new
   -- the count of faults didn't fall
   pub later : old.faults ≤ new.faults
-  -- if something was fetched and the newest fetch failed, the count rose
+  -- if the newest fetch failed, and the history isn't the old one, the count rose or has come to its greatest number
   pub rose : (fetch : Fetch) (past : List Fetch) → new.history ≡ fetch ∷ past → fetch.failed ≡ true →
       (new.history ≡ old.history) ⊎ Rose old.faults new.faults

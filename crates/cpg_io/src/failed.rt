@@ -2,7 +2,7 @@
 
 use thiserror::Error;
 
-/// A call of a shelf or a sink met a fault, and its count of faults rose.
+/// A call of a shelf or a sink met a fault, and its count of faults rose, or has come to its greatest number.
 #[derive(Clone, Copy, Debug, PartialEq, Eq, Error)]
 #[error("a read or a write failed")]
 pub struct Failed;

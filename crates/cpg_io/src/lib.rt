@@ -1,11 +1,11 @@
 //! Where bytes come from and where they go: a [`Shelf`] gives the bytes that stand under a name, a [`Sink`] takes
 //! bytes, and both count their faults.
 //!
-//! A call answers [`Failed`] only if that count rose in it. A shelf always reports to contracts what it gave, over real files
-//! too: which names were fetched, which bytes were given of each, whether to their end, and whether a call failed. A sink
-//! reports what it took. These reports are ghost data, which takes no byte and no instruction. [`MemoryShelf`] also reports
-//! what stands under a name and what is left of it. [`FileShelf`] reports what is left only if its open file does, which a
-//! file of the machine doesn't.
+//! A call answers [`Failed`] only if that count rose in it, or has come to its greatest number. A shelf always reports
+//! to contracts what it gave, over real files too: which names were fetched, which bytes were given of each, whether to
+//! their end, and whether a call failed. A sink reports what it took. These reports are ghost data, which takes no byte
+//! and no instruction. [`MemoryShelf`] also reports what stands under a name and what is left of it. [`FileShelf`]
+//! reports what is left only if its open file does, which a file of the machine doesn't.
 #![tactic(auto)]
 
 mod failed;

@@ -13,7 +13,7 @@ use thiserror::Error;
 /// Why not all bytes were read.
 #[derive(Clone, Copy, Debug, PartialEq, Eq, Error)]
 pub enum ReadAll {
-    /// The shelf met a fault, and its count of faults rose.
+    /// The shelf met a fault, and its count of faults rose, or has come to its greatest number.
     #[error("the shelf met a fault")]
     Failed,
     /// There are more bytes than the limit.
@@ -50,8 +50,8 @@ impl From<AllocError> for ReadAll {
 const PIECE: usize = 65_536;
 
 /// Reads one piece by way of `buffer` and adds it to `bytes`. Returns how many bytes came; 0 means the end. At an error
-/// nothing is added: `Failed` only if the shelf's count of faults rose, `TooLong` if the piece goes past the limit, and
-/// `OutOfMemory` if there is no memory for it.
+/// nothing is added: `Failed` only if the shelf's count of faults rose, or has come to its greatest number, `TooLong`
+/// if the piece goes past the limit, and `OutOfMemory` if there is no memory for it.
 fn read_piece<S: Shelf>(
     shelf: &mut S,
     buffer: &mut [u8],
@@ -86,9 +86,10 @@ fn read_piece<S: Shelf>(
 
 /// Returns all bytes that stand under a name, if there are at most `limit` of them. They are read in large pieces.
 ///
-/// `Failed` only if the shelf's count of faults rose. `TooLong` exactly if the shelf has given more than `limit` bytes since
-/// the fetch; it is asked for no more than `limit` plus one. At `Ok` these are all bytes that the shelf gave, to the end of
-/// the name. If the shelf reports what stands under the name, they are just that.
+/// `Failed` only if the shelf's count of faults rose, or has come to its greatest number. `TooLong` exactly if the
+/// shelf has given more than `limit` bytes since the fetch; it is asked for no more than `limit` plus one. At `Ok`
+/// these are all bytes that the shelf gave, to the end of the name. If the shelf reports what stands under the name,
+/// they are just that.
 pub fn read_all<S: Shelf>(
     alloc: Global,
     shelf: &mut S,

@@ -23,7 +23,8 @@ pub trait Shelf {
 
     /// Makes the name the one that is read, from its start.
     ///
-    /// `Failed` only if the count of faults rose, as for a name that isn't there. Nothing is left to read then.
+    /// `Failed` only if the count of faults rose, or has come to its greatest number, as for a name that isn't there.
+    /// Nothing is left to read then.
     fn fetch(&mut self, name: &str) -> Result<(), Failed>
         requires { may_fetch self.old name.now }
         ensures names { SameNames (state self.old) (state self.new) }
@@ -35,7 +36,7 @@ pub trait Shelf {
 
     /// Writes the next bytes to the front of `buf`, which isn't empty. Returns how many; 0 means the end.
     ///
-    /// `Failed` only if the count of faults rose. Nothing is given then.
+    /// `Failed` only if the count of faults rose, or has come to its greatest number. Nothing is given then.
     fn read(&mut self, buf: &mut [u8]) -> Result<usize, Failed>
         requires { 0 < length buf.old }
         ensures names { SameNames (state self.old) (state self.new) }

@@ -13,7 +13,7 @@ pub trait Sink {
 
     /// Takes at least one byte from the front of `piece`. Returns how many.
     ///
-    /// `Failed` only if the count of faults rose. Nothing is taken then.
+    /// `Failed` only if the count of faults rose, or has come to its greatest number. Nothing is taken then.
     fn write(&mut self, piece: &[u8]) -> Result<usize, Failed>
         requires { 0 < length piece.now }
         ensures some { IfOk result (λ n. 0 < n) }

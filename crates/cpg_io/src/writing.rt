@@ -7,7 +7,8 @@ use crate::{Failed, Sink};
 
 /// Writes all of the bytes, in as many writes as the sink needs.
 ///
-/// `Failed` only if the sink's count of faults rose. The sink has taken a proper prefix of the bytes then.
+/// `Failed` only if the sink's count of faults rose, or has come to its greatest number. The sink has taken a proper
+/// prefix of the bytes then.
 pub fn write_all<O: Sink>(sink: &mut O, bytes: &[u8]) -> Result<(), Failed>
     ensures whole { OnOk result (Took (O.state sink.old).taken (O.state sink.new).taken bytes.now) }
     ensures part { OnErr result (TookPrefix (O.state sink.old).taken (O.state sink.new).taken bytes.now) }

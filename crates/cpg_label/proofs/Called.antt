@@ -13,4 +13,4 @@ process_called g p = get_or-mapped (λ (p : Process). p.name) g.processes p _
 -- the labels of a graph call a condition by the name of its process
 pub condition_called : (g : Graph) (c : ℕ) → c < condition_count g →
     condition_name (labels_of g) c ≡ (process_at g (process_of g c)).name
-condition_called g c l = get_or-map (λ p. (process_at g p).name) (disjunctions g) c 0 [] l
+condition_called g c below = get_or-map (λ p. (process_at g p).name) (disjunctions g) c 0 [] below

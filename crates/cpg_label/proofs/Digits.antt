@@ -7,15 +7,16 @@ use Rattle.std.proofs.lemmas.List.{length-append}
 
 -- a number below 10 has one digit, the byte 48 + n
 one_digit : (n : ℕ) → n < 10 → (48 + n) ∷ [] ≡ decimal n
-one_digit n l = sym (decimal_digit n l)
+one_digit n below = sym (decimal_digit n below)
 
 -- the text of a number below 10 is one byte long
 pub one_long : (n : ℕ) → n < 10 → length (decimal n) ≡ 1
-one_long n l = ap (λ (ds : List ℕ). length ds) (decimal_digit n l)
+one_long n below = ap (λ (ds : List ℕ). length ds) (decimal_digit n below)
 
 -- to write that digit after a text is to write the number after it
 pub one_written : (n v : ℕ) (old new : List ℕ) → n < 10 → new ≡ old ++ v ∷ [] → v ≡ 48 + n → new ≡ old ++ decimal n
-one_written n v old new l e d = e ∙ ap (λ x. old ++ x ∷ []) d ∙ ap (λ (ds : List ℕ). old ++ ds) (one_digit n l)
+one_written n v old new below same d =
+    same ∙ ap (λ x. old ++ x ∷ []) d ∙ ap (λ (ds : List ℕ). old ++ ds) (one_digit n below)
 
 -- the text of a number from 10 on is one byte longer than that of its tenth
 pub more_long : (n : ℕ) → 10 ≤ n → n < 2 ^ 64 → length (decimal n) ≡ length (decimal (n / 10)) + 1
@@ -26,8 +27,8 @@ more_long n l small =
 pub more_written : (n v : ℕ) (old mid new : List ℕ) → 10 ≤ n → n < 2 ^ 64 → mid ≡ old ++ decimal (n / 10) →
     new ≡ mid ++ v ∷ [] → v ≡ 48 + n % 10 →
     new ≡ old ++ decimal n
-more_written n v old mid new l small m e d =
-    e ∙ ap₂ (λ (front : List ℕ) x. front ++ x ∷ []) m d ∙ append_assoc old (decimal (n / 10)) ((48 + n % 10) ∷ [])
+more_written n v old mid new l small same e d =
+    e ∙ ap₂ (λ (front : List ℕ) x. front ++ x ∷ []) same d ∙ append_assoc old (decimal (n / 10)) ((48 + n % 10) ∷ [])
     ∙ ap (λ (ds : List ℕ). old ++ ds) (sym (decimal_step n l small))
 
 -- a number of 64 bits has at most 20 digits

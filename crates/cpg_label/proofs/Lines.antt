@@ -32,9 +32,9 @@ rest_of_one labels (x ∷ xs) l = append-nil (piece_text labels l)
 -- what a literal adds to the text of n others, as code knows it by n, is what it adds to their text
 after_is : (labels : Labels) (xs : List Literal) (n : ℕ) (l : Literal) → length xs ≡ n →
     text_after labels n l ≡ added_text labels xs l
-after_is labels [] n l e = rw (← e) refl
-after_is labels (x ∷ xs) n l e =
-    let some : suc (length xs) ≡ n = e in
+after_is labels [] n l same = rw (← same) refl
+after_is labels (x ∷ xs) n l same =
+    let some : suc (length xs) ≡ n = same in
     let other : (n == 0) ≡ false = ne_eqb n 0 (λ none. omega (arith, none, some)) in
     rw other refl
 
@@ -54,10 +54,10 @@ pub alike_more : (first second : List Literal) (n k : ℕ) → AreAlike first se
     k ≤ length second - n →
     take k (drop n first) ≡ take k (drop n second) →
     AreAlike first second (n + k)
-alike_more first second n k h a b e = record {
-  same = take-add n k first ∙ ap₂ (λ xs ys. xs ++ ys) h.same e ∙ sym (take-add n k second);
-  within = omega (arith, a, h.within);
-  inside = omega (arith, b, h.inside);
+alike_more first second n k are_alike a b e = record {
+  same = take-add n k first ∙ ap₂ (λ xs ys. xs ++ ys) are_alike.same e ∙ sym (take-add n k second);
+  within = omega (arith, a, are_alike.within);
+  inside = omega (arith, b, are_alike.inside);
 }
 
 -- the same if the next k literals are equal blocks; `left` and `right` are the lists from n on, `rest` and `behind` what is
@@ -67,11 +67,11 @@ pub block_more : (first second left right block rest other behind : List Literal
     block ≡ take k left →
     length rest + k ≡ length left → other ≡ take k right → length behind + k ≡ length right → block ≡ other →
     AreAlike first second (n + k)
-block_more first second left right block rest other behind n k h l r is some also more same =
-    let a : length left ≡ length first - n = ap length l ∙ length-drop n first in
-    let b : length right ≡ length second - n = ap length r ∙ length-drop n second in
-    alike_more first second n k h (omega (arith, a, some)) (omega (arith, b, more))
-    (sym (is ∙ ap (take k) l) ∙ same ∙ also ∙ ap (take k) r)
+block_more first second left right block rest other behind n k alike left_is right_is is some also more same =
+    let left_count : length left ≡ length first - n = ap length left_is ∙ length-drop n first in
+    let right_count : length right ≡ length second - n = ap length right_is ∙ length-drop n second in
+    alike_more first second n k alike (omega (arith, left_count, some)) (omega (arith, right_count, more))
+    (sym (is ∙ ap (take k) left_is) ∙ same ∙ also ∙ ap (take k) right_is)
 
 -- taking as many as are left takes all that is left
 pub rest_of : (n : ℕ) (ls : List Literal) → take (length ls - n) (drop n ls) ≡ drop n ls
@@ -94,10 +94,10 @@ line_none labels = record { text = refl; count = refl; ends = λ n le. none n le
 -- the text of a line is at most 84 bytes long for each literal
 pub line_short : (labels : Labels) (ls : List Literal) (text ends : List ℕ) → AreLine labels ls text ends →
     length text ≤ 84 * length ls
-line_short labels ls text ends h =
-    let all : get_or ends (length ls) 0 ≡ length text = h.ends (length ls) (omega arith)
-    ∙ ap (λ xs. length (front_text labels xs)) (take-length ls) ∙ ap length (sym h.text) in
-    let few = h.short (length ls) (omega arith) in
+line_short labels ls text ends are_line =
+    let all : get_or ends (length ls) 0 ≡ length text = are_line.ends (length ls) (omega arith)
+    ∙ ap (λ xs. length (front_text labels xs)) (take-length ls) ∙ ap length (sym are_line.text) in
+    let few = are_line.short (length ls) (omega arith) in
     omega (arith, all, few)
 
 -- A line with the text that one literal adds, at most 84 bytes, and its end is the line of one literal more. The ends
@@ -106,14 +106,15 @@ pub line_more : (labels : Labels) (ls : List Literal) (text ends : List ℕ) (l 
     AreLine labels ls text ends →
     longer ≡ text ++ added_text labels ls l →
     length longer ≤ length text + 84 → AreLine labels (ls ++ l ∷ []) longer (ends ++ length longer ∷ [])
-line_more labels ls text ends l longer h is few =
+line_more labels ls text ends l longer are_line is few =
     record {
       text = text_is;
-      count = omega (arith, length-append ends (length longer ∷ []), long, h.count);
+      count = omega (arith, length-append ends (length longer ∷ []), long, are_line.count);
       ends = λ n le. elim (cases_lt (length ls) n) [ inl lt ↦ last n le lt | inr ge ↦ before n ge ];
       short = λ n le. elim (cases_lt (length ls) n) [
         | inl lt ↦ last_short n le lt
-        | inr ge ↦ rw (get_or-append ends (length longer ∷ []) 0 n (omega (arith, h.count))) (h.short n ge)
+        | inr ge ↦ rw (get_or-append ends (length longer ∷ []) 0 n (omega (arith, are_line.count)))
+            (are_line.short n ge)
       ];
     }
   where
@@ -123,27 +124,27 @@ line_more labels ls text ends l longer h is few =
 
     -- the text with one literal more
     text_is : longer ≡ front_text labels (ls ++ l ∷ [])
-    text_is = is ∙ ap (λ t. t ++ added_text labels ls l) h.text ∙ sym (front_more labels ls l)
+    text_is = is ∙ ap (λ t. t ++ added_text labels ls l) are_line.text ∙ sym (front_more labels ls l)
 
     -- the ends before the new one are as they were
     before : (n : ℕ) → n ≤ length ls →
         get_or (ends ++ length longer ∷ []) n 0 ≡ length (front_text labels (take n (ls ++ l ∷ [])))
-    before n le = get_or-append ends (length longer ∷ []) 0 n (omega (arith, h.count)) ∙ h.ends n le
+    before n le = get_or-append ends (length longer ∷ []) 0 n (omega (arith, are_line.count)) ∙ are_line.ends n le
         ∙ ap (λ xs. length (front_text labels xs)) (sym (take-append-le n ls (l ∷ []) le))
 
     -- the new end is within the room for n literals
     last_short : (n : ℕ) → n ≤ length (ls ++ l ∷ []) → length ls < n → get_or (ends ++ length longer ∷ []) n 0 ≤ 84 * n
     last_short n le lt =
         let at : get_or (ends ++ length longer ∷ []) n 0 ≡ length longer =
-        ap (λ i. get_or (ends ++ length longer ∷ []) i 0) (omega (arith, long, h.count))
+        ap (λ i. get_or (ends ++ length longer ∷ []) i 0) (omega (arith, long, are_line.count))
         ∙ get_or-append_seam ends (length longer) [] 0 in
-        let whole : length text ≤ 84 * length ls = line_short labels ls text ends h in
+        let whole : length text ≤ 84 * length ls = line_short labels ls text ends are_line in
         omega (arith, at, whole, few, le, lt, long)
 
     -- the new end is where the text with the literal ends
     last : (n : ℕ) → n ≤ length (ls ++ l ∷ []) → length ls < n →
         get_or (ends ++ length longer ∷ []) n 0 ≡ length (front_text labels (take n (ls ++ l ∷ [])))
-    last n le lt = ap (λ i. get_or (ends ++ length longer ∷ []) i 0) (omega (arith, long, h.count))
+    last n le lt = ap (λ i. get_or (ends ++ length longer ∷ []) i 0) (omega (arith, long, are_line.count))
         ∙ get_or-append_seam ends (length longer) [] 0 ∙ ap length text_is
         ∙ ap (λ xs. length (front_text labels xs))
         (sym (ap (λ i. take i (ls ++ l ∷ [])) (omega (arith, long)) ∙ take-length (ls ++ l ∷ [])))
@@ -153,26 +154,27 @@ line_more labels ls text ends l longer h is few =
 pub line_less : (labels : Labels) (ls : List Literal) (text ends : List ℕ) (count : ℕ) → AreLine labels ls text ends →
     count ≤ length ls →
     AreLine labels (take count ls) (take (get_or ends count 0) text) (take (count + 1) ends)
-line_less labels ls text ends count h le =
+line_less labels ls text ends count are_line le =
     record {
       text = text_is;
-      count = omega (arith, length-take-le (count + 1) ends (omega (arith, h.count)), length-take-le count ls le);
+      count =
+          omega (arith, length-take-le (count + 1) ends (omega (arith, are_line.count)), length-take-le count ls le);
       ends = ends_are;
       short = λ n few. rw (get_or-take (count + 1) ends n 0 (omega (arith, length-take-le count ls le)))
-          (h.short n (omega (arith, length-take-le count ls le)));
+          (are_line.short n (omega (arith, length-take-le count ls le)));
     }
   where
     -- the text up to the end of literal `count` is that of the first `count` literals
     text_is : take (get_or ends count 0) text ≡ front_text labels (take count ls)
-    text_is = ap (λ n. take n text) (h.ends count le)
-        ∙ ap (take (length (front_text labels (take count ls)))) (h.text ∙ front_parted labels ls count)
+    text_is = ap (λ n. take n text) (are_line.ends count le)
+        ∙ ap (take (length (front_text labels (take count ls)))) (are_line.text ∙ front_parted labels ls count)
         ∙ take-append_seam (front_text labels (take count ls)) (rest_text labels (take count ls) (drop count ls))
 
     -- the ends that are kept are those of the literals that are kept
     ends_are : (n : ℕ) → n ≤ length (take count ls) →
         get_or (take (count + 1) ends) n 0 ≡ length (front_text labels (take n (take count ls)))
     ends_are n few = get_or-take (count + 1) ends n 0 (omega (arith, length-take-le count ls le))
-        ∙ h.ends n (omega (arith, length-take-le count ls le))
+        ∙ are_line.ends n (omega (arith, length-take-le count ls le))
         ∙ ap (λ xs. length (front_text labels xs))
         (ap (take n) (sym (take-append-drop count ls)) ∙ take-append-le n (take count ls) (drop count ls) few)
 
@@ -180,18 +182,18 @@ line_less labels ls text ends count h le =
 front_no_longer : (labels : Labels) (ls : List Literal) (n : ℕ) →
     length (front_text labels (take n ls)) ≤ length (front_text labels ls)
 front_no_longer labels ls n =
-    let e : length (front_text labels ls)
+    let lengths : length (front_text labels ls)
     ≡ length (front_text labels (take n ls)) + length (rest_text labels (take n ls) (drop n ls)) =
     ap length (front_parted labels ls n)
     ∙ length-append (front_text labels (take n ls)) (rest_text labels (take n ls) (drop n ls)) in
-    omega (arith, e)
+    omega (arith, lengths)
 
 -- ---- lists that have more after a line
 
 -- a room whose ends are all 0 begins with the line of no literals
 pub line_new : (labels : Labels) (ls : List Literal) (text ends : List ℕ) → ends ≡ replicate 257 0 →
     AreLine labels (take 0 ls) (take (get_or ends 0 0) text) (take (0 + 1) ends)
-line_new labels ls text ends e = rw e (line_none labels)
+line_new labels ls text ends same = rw same (line_none labels)
 
 -- given: lists that begin with the line of `count` literals, and have more after it
 module _ (labels : Labels) (ls : List Literal) (text ends : List ℕ) (count : ℕ)
@@ -259,15 +261,15 @@ module _ (labels : Labels) (ls : List Literal) (text ends : List ℕ) (count : �
 
 -- if `put` is as long as the room, the room with `put` written over it is `put`
 pub refilled : (len : ℕ) (put old : List ℕ) → length put ≡ len → take len (put ++ drop (length put) old) ≡ put
-refilled len put old e =
-    ap (λ n. take n (put ++ drop (length put) old)) (sym e) ∙ take-append_seam put (drop (length put) old)
+refilled len put old put_length =
+    ap (λ n. take n (put ++ drop (length put) old)) (sym put_length) ∙ take-append_seam put (drop (length put) old)
 
 -- in a list of rising variables, the one at place i is at least i; by induction on i
 rising_place : (ls : List Literal) (i : ℕ) (d : Literal) → IsRising ls → i < length ls → i ≤ (get_or ls i d).variable
-rising_place ls zero d r h = omega arith
-rising_place ls (suc i) d r h =
-    let a = rising_place ls i d r (omega arith) in
-    let b = r i (suc i) d (omega arith) h in
+rising_place ls zero d rising inside = omega arith
+rising_place ls (suc i) d rising inside =
+    let place = rising_place ls i d rising (omega arith) in
+    let next_above = rising i (suc i) d (omega arith) inside in
     omega arith
 
 -- a list of rising variables is at most one longer than its last variable

@@ -17,9 +17,9 @@ pub next_mapped : {X Y Z : Type 0} (v : X → Z) (h : Y → Z) (xs ys : List X) 
     i < length ps → map v xs ≡ map h (take i ps) →
     ys ≡ xs ++ x ∷ [] →
     v x ≡ h (get_or ps i d) → map v ys ≡ map h (take (i + 1) ps)
-next_mapped v h xs ys x ps i d l e is same =
+next_mapped v h xs ys x ps i d inside e is same =
     ap (map v) is ∙ map-append v xs (x ∷ []) ∙ ap₂ (λ zs z. zs ++ z ∷ []) e same ∙
-    sym (ap (map h) (ap (λ n. take n ps) (one_more i) ∙ take-suc ps i d l)
+    sym (ap (map h) (ap (λ n. take n ps) (one_more i) ∙ take-suc ps i d inside)
     ∙ map-append h (take i ps) (get_or ps i d ∷ []))
 
 -- if a text is an old one and the pieces of the numbers below n, with the piece of n added it is so of the numbers below
@@ -27,6 +27,6 @@ next_mapped v h xs ys x ps i d l e is same =
 pub next_piece : {X : Type 0} (f : ℕ → List X) (n : ℕ) (old text next : List X) →
     old ++ flat_map f (numbers_below n) ≡ text → next ≡ text ++ f n →
     old ++ flat_map f (numbers_below (n + 1)) ≡ next
-next_piece f n old text next e is = ap (λ l. old ++ l) (ap (flat_map f) (below_push n)
+next_piece f n old text next same is = ap (λ l. old ++ l) (ap (flat_map f) (below_push n)
     ∙ flat_map-append f (numbers_below n) (n ∷ []) ∙ ap (λ l. flat_map f (numbers_below n) ++ l) (append-nil (f n)))
-    ∙ sym (append_assoc old (flat_map f (numbers_below n)) (f n)) ∙ ap (λ l. l ++ f n) e ∙ sym is
+    ∙ sym (append_assoc old (flat_map f (numbers_below n)) (f n)) ∙ ap (λ l. l ++ f n) same ∙ sym is

@@ -88,8 +88,8 @@ fn front_by_four(first: &[Literal], second: &[Literal], place: usize) -> usize
     place
 }
 
-/// Returns how many literals two lists begin with in common, looking at one after another from a place up to which they
-/// are alike.
+/// Returns a place up to which two lists are alike, comparing one literal after another from such a place on. It is the
+/// first where they differ or one of them ends; the contract says only that they are alike up to it.
 fn front_from(first: &[Literal], second: &[Literal], from: usize) -> usize
     requires { AreAlike first.now second.now from }
     ensures { AreAlike first.now second.now result }
@@ -105,8 +105,9 @@ fn front_from(first: &[Literal], second: &[Literal], from: usize) -> usize
     place
 }
 
-/// Returns how many literals two lists begin with in common. Columns that are neighbours mostly differ in the last
-/// literals alone, so it compares many at once.
+/// Returns the place of the first literal in which two lists differ, or where one of them ends; the contract says only
+/// that they are alike up to it. Columns that are neighbours mostly differ in the last literals alone, so it compares
+/// many at once.
 fn common_front(first: &[Literal], second: &[Literal]) -> usize
     ensures { AreAlike first.now second.now result }
 {

@@ -14,12 +14,12 @@ use Rattle.cpg_latest.specs.declared.asking.Asked.{Asked}
 -- the outcome of the track at a place
 pub outcome_at : (scenarios : List Scenario) (i : ℕ) (d : Scenario) → i < length scenarios →
     track_at (outcomes_of scenarios) i ≡ (get_or scenarios i d).values
-outcome_at scenarios i d l = get_or-map (λ s. s.values) scenarios i d [] l
+outcome_at scenarios i d within = get_or-map (λ s. s.values) scenarios i d [] within
 
 -- the track at a place has the outcome that was asked there
 pub outcome_asked : (asked : List Asked) (i : ℕ) (d : Asked) → i < length asked →
     track_at (outcomes_asked asked) i ≡ (get_or asked i d).scenario.now.values
-outcome_asked asked i d l = get_or-map (λ a. a.scenario.now.values) asked i d [] l
+outcome_asked asked i d within = get_or-map (λ a. a.scenario.now.values) asked i d [] within
 
 -- if each of a list is what an outcome says of the process, and one more is, so is each of the list with that one
 pub asked_more : (g : Graph) (guards : Guards) (p : ℕ) (asked more : List Asked) (one : Asked) →
@@ -39,8 +39,8 @@ pub outcomes_more : (asked more : List Asked) (one : Asked) (scenarios : List Sc
     i < length scenarios
     → one.scenario.now.values ≡ (get_or scenarios i d).values → more ≡ asked ++ one ∷ [] →
     outcomes_asked more ≡ outcomes_of (take (i + 1) scenarios)
-outcomes_more asked more one scenarios i d before l same all =
+outcomes_more asked more one scenarios i d before within same all =
     ap outcomes_asked all ∙ map-append (λ (a : Asked). a.scenario.now.values) asked (one ∷ [])
     ∙ ap₂ (λ xs v. xs ++ v ∷ []) before same
-    ∙ sym (ap outcomes_of (take_more scenarios i d l)
+    ∙ sym (ap outcomes_of (take_more scenarios i d within)
     ∙ map-append (λ (s : Scenario). s.values) (take i scenarios) (get_or scenarios i d ∷ []))

@@ -42,7 +42,7 @@ last_first g late p = refl
 -- the latest end with n faults is the last end for m, if m is n + 1
 last_at : (g : Graph) (late : ℕ → Times) (n m p : ℕ) → m ≡ suc n → latest_end g late n p ≡ last_end g late m p
 unfolding last_end
-last_at g late n m p e = subst (λ i. latest_end g late n p ≡ last_end g late i p) (sym e) refl
+last_at g late n m p is = subst (λ i. latest_end g late n p ≡ last_end g late i p) (sym is) refl
 
 -- the latest end with n faults is the last end for n + 1
 pub last_next : (g : Graph) (late : ℕ → Times) (n p : ℕ) → latest_end g late n p ≡ last_end g late (n + 1) p
@@ -53,20 +53,20 @@ last_next g late n p = last_at g late n (n + 1) p (omega arith)
 module _ (g : Graph) (order : List ℕ) (topological : IsTopological g order) (Done : ℕ → Type 0)
     (frozen : List (Option ℕ)) (values : List Bool)
     (limits : IsWithinLimits g) (long : length values ≡ condition_count g) (early : AreEarly frozen) (p : ℕ)
-    (l : p < process_count g) (acts : active g values p ≡ true) where
+    (within : p < process_count g) (acts : active g values p ≡ true) where
   -- the latest end with one fault less is below 2 ^ 60, as all latest ends are; with no faults it is 0
   pub last_small : (n : ℕ) → n < g.faults + 1 → last_end g (the_latest g order frozen values topological) n p < 2 ^ 60
   unfolding last_end
   last_small zero few = omega arith
   last_small (suc n) few =
-      let s = with_faults values [] in
+      let scenario = with_faults values [] in
       let late = the_latest g order frozen values topological in
       let are = latest_exist g order frozen values topological in
       let small = latest_small g order topological Done frozen values limits long early n (omega (arith, few)) in
-      let on = start_acts g order frozen s (late n)
-      (latest_is_timed g order frozen s late are n (omega (arith, few))) p l acts in
-      let is = late_end_active g order frozen s late are n (omega (arith, few)) p l on in
-      omega (arith, is, small.ends p)
+      let on = start_acts g order frozen scenario (late n)
+      (latest_is_timed g order frozen scenario late are n (omega (arith, few))) p within acts in
+      let end_is = late_end_active g order frozen scenario late are n (omega (arith, few)) p within on in
+      omega (arith, end_is, small.ends p)
 
 -- the course c once the process p has begun on its node
 abbrev pub begun : ProgressState → ℕ → ℕ → ℕ → ℕ → ProgressState
@@ -91,7 +91,7 @@ sent c x node time free = record {
 -- given: a process p of an outcome (`values`), and a number n of faults; `Done` says which items are done
 module _ (g : Graph) (order : List ℕ) (topological : IsTopological g order) (Done : ℕ → Type 0)
     (frozen : List (Option ℕ)) (values : List Bool)
-    (p : ℕ) (l : p < process_count g) (on : node_of g p < length g.nodes) (n : ℕ) (few : n < g.faults + 1) where
+    (p : ℕ) (within : p < process_count g) (on : node_of g p < length g.nodes) (n : ℕ) (few : n < g.faults + 1) where
   module _ (c : ProgressState) (course : IsCourse g order Done frozen values (place order p) n c) (ready : ℕ)
       (is_ready : IsReadyFor g values p c ready) where
     -- ---- an inactive process
@@ -109,13 +109,14 @@ module _ (g : Graph) (order : List ℕ) (topological : IsTopological g order) (D
       acts = λ acts. absurd (apart (sym acts ∙ idle));
       idle = λ off more goes late are.
           at_idle g order topological more (with_faults values []) (late n) (latest_is_timed g order more
-          (with_faults values []) late are n (omega arith)) (place order p) p l refl on
+          (with_faults values []) late are n (omega arith)) (place order p) p within refl on
           c.known c.ready c.free (course.at more goes late are) course.places.ready_count course.places.free_count
           is_ready.heard is_ready.is_heard ready idle is_ready.is;
     }
       where
+        -- true isn't false
         apart : true ≡ false → ⊥
-        apart e = cc
+        apart conflict = cc
 
     -- ---- an active one
 
@@ -132,7 +133,7 @@ module _ (g : Graph) (order : List ℕ) (topological : IsTopological g order) (D
           (greatest (input_bounds g (with_faults values []) c.known p))) (unwrap_or o 0))
           (sym (goes p (omega arith) done)) in
           start_right g order topological more (with_faults values []) (late n) (latest_is_timed g order more
-          (with_faults values []) late are n (omega arith)) (place order p) p l refl on
+          (with_faults values []) late are n (omega arith)) (place order p) p within refl on
           c.known c.ready c.free (course.at more goes late are) course.places.ready_count course.places.free_count
           is_ready.heard is_ready.is_heard acts ready start is_ready.is found
 
@@ -149,20 +150,26 @@ module _ (g : Graph) (order : List ℕ) (topological : IsTopological g order) (D
             (λ late. HasGone g order (with_faults values []) (late n) p 0 (begun c p (node_of g p) start end))
         gone more goes late are =
             -- in the latest times, the start that is found is the start of the process
-            let s = with_faults values [] in
-            let t = late n in
-            let run : IsTimed g order more s t = latest_is_timed g order more s late are n (omega arith) in
-            let found : start ≡ max (max (max ready (process_at g p).release) (greatest (input_bounds g s c.known p)))
+            let scenario = with_faults values [] in
+            let latest = late n in
+            let run : IsTimed g order more scenario latest = latest_is_timed g order more scenario
+            late are n (omega arith) in
+            let found : start ≡ max (max (max ready (process_at g p).release)
+            (greatest (input_bounds g scenario c.known p)))
             (frozen_in more p) =
-            is_start ∙ ap (λ o. max (max (max ready (process_at g p).release) (greatest (input_bounds g s c.known p)))
+            is_start ∙ ap (λ o. max (max (max ready (process_at g p).release)
+            (greatest (input_bounds g scenario c.known p)))
             (unwrap_or o 0)) (sym (goes p (omega arith) done)) in
             -- the end is the latest end
-            let after : start ≤ end = let k = not_sooner g p n start last in omega (arith, k, is_end) in
-            let right : end ≡ end_in t p = end_is_latest more goes late are ∙ sym (late_end_active g order more s late
-            are n (omega arith) p l (start_acts g order more s t run p l acts)) in
+            let after : start ≤ end = let not_earlier = not_sooner g p n start last in
+            omega (arith, not_earlier, is_end) in
+            let right : end ≡ end_in latest p = end_is_latest more goes late are
+            ∙ sym (late_end_active g order more scenario late
+            are n (omega arith) p within (start_acts g order more scenario latest run p within acts)) in
             -- with both set, the process can send
             let next = begun c p (node_of g p) start end in
-            let can = can_send g order topological more s t run (place order p) p l refl on c.known c.ready c.free
+            let can = can_send g order topological more scenario latest run (place order p) p within refl
+            on c.known c.ready c.free
             (course.at more goes late are) course.places.ready_count course.places.free_count
             is_ready.heard is_ready.is_heard acts ready start is_ready.is found end after right next.known
             course.places.times course.places.ends refl refl (get_or c.free (node_of g p) 0) refl in
@@ -172,11 +179,13 @@ module _ (g : Graph) (order : List ℕ) (topological : IsTopological g order) (D
               frees = c.free;
               ended = can.ends;
               none = can.none;
-              sent = nothing_sent g order topological s p l t next.known (get_or c.free (node_of g p) 0) can;
+              sent = nothing_sent g order topological scenario p within latest next.known
+                  (get_or c.free (node_of g p) 0) can;
               keeps = record { times = refl; ends = refl };
               free = set_same c.free (node_of g p) (omega (arith, on, course.places.free_count));
               next = λ new free sent keeps.
-                  at_active g order topological more s t run (place order p) p l refl on c.known c.ready c.free
+                  at_active g order topological more scenario latest run (place order p) p within refl
+                  on c.known c.ready c.free
                   (course.at more goes late are) course.places.ready_count course.places.free_count
                   is_ready.heard is_ready.is_heard acts ready start is_ready.is found end after right next.known
                   course.places.times course.places.ends refl refl new free sent keeps;
@@ -195,8 +204,9 @@ module _ (g : Graph) (order : List ℕ) (topological : IsTopological g order) (D
           idle = λ off. absurd (apart (sym acts ∙ off));
         }
           where
+            -- true isn't false
             apart : true ≡ false → ⊥
-            apart e = cc
+            apart conflict = cc
 
   -- ---- what it sends
 
@@ -213,19 +223,20 @@ module _ (g : Graph) (order : List ℕ) (topological : IsTopological g order) (D
     unsent off = record {
       places = sending.places;
       acts = λ acts more goes late are.
-          let s = with_faults values [] in
-          let h = sending.acts acts more goes late are in
-          let run : IsTimed g order more s (late n) = latest_is_timed g order more s late are n (omega arith) in
+          let scenario = with_faults values [] in
+          let gone = sending.acts acts more goes late are in
+          let run : IsTimed g order more scenario (late n) = latest_is_timed g order more scenario
+          late are n (omega arith) in
           record {
-            begun = h.begun;
-            frees = h.frees;
-            ended = h.ended;
-            none = h.none;
-            sent = sent_idle g order topological s p l more (late n) run h.begun c.known k
-                (get_or c.free (node_of g p) 0) inside h.sent h.none (off acts);
-            keeps = h.keeps;
-            free = h.free;
-            next = h.next;
+            begun = gone.begun;
+            frees = gone.frees;
+            ended = gone.ended;
+            none = gone.none;
+            sent = sent_idle g order topological scenario p within more (late n) run gone.begun c.known k
+                (get_or c.free (node_of g p) 0) inside gone.sent gone.none (off acts);
+            keeps = gone.keeps;
+            free = gone.free;
+            next = gone.next;
           };
       idle = sending.idle;
     }
@@ -237,8 +248,8 @@ module _ (g : Graph) (order : List ℕ) (topological : IsTopological g order) (D
         (frozen_in frozen x)) where
       -- the end of the process in the course is the latest end
       end_there : ForLatest g order Done frozen values (λ late. end_in c.known p ≡ end_in (late n) p)
-      end_there more goes late are = let h = sending.acts acts more goes late are in
-          ap (λ es. unwrap_or (get_or es p None) 0) h.keeps.ends ∙ h.ended
+      end_there more goes late are = let gone = sending.acts acts more goes late are in
+          ap (λ es. unwrap_or (get_or es p None) 0) gone.keeps.ends ∙ gone.ended
 
       -- the time that is found is the rule's, with the latest end and the frozen time of whatever list follows
       time_there : (more : List (Option ℕ)) → GoesOn g Done frozen more → (late : ℕ → Times) →
@@ -246,18 +257,19 @@ module _ (g : Graph) (order : List ℕ) (topological : IsTopological g order) (D
           → time ≡ max (max (next_slot g (node_of g p) (end_in (late n) p)) (get_or c.free (node_of g p) 0))
           (frozen_in more x)
       time_there more goes late are =
-          let q = in_queue g p x (here_sent g order topological (with_faults values []) p l k inside) in
+          let own_item = in_queue g p x (here_sent g order topological (with_faults values []) p within k inside) in
           is_time ∙ ap₂ (λ e o. max (max (next_slot g (node_of g p) e) (get_or c.free (node_of g p) 0)) (unwrap_or o 0))
-          (end_there more goes late are) (sym (goes x q.within done))
+          (end_there more goes late are) (sym (goes x own_item.within done))
 
       -- the time that is found is that of the latest times
       pub time_is_latest : ForLatest g order Done frozen values (λ late. time ≡ time_in (late n) x)
       time_is_latest more goes late are =
-          let s = with_faults values [] in
-          let h = sending.acts acts more goes late are in
+          let scenario = with_faults values [] in
+          let gone = sending.acts acts more goes late are in
           time_there more goes late are
-          ∙ send_is g order topological s p l k inside more (late n) (latest_is_timed g order more s late are n
-          (omega arith)) (get_or c.free (node_of g p) 0) h.sent.slots_free on_item
+          ∙ send_is g order topological scenario p within k inside more (late n)
+          (latest_is_timed g order more scenario late are n
+          (omega arith)) (get_or c.free (node_of g p) 0) gone.sent.slots_free on_item
 
       -- the end and the time of the send are latest times, and so below 2 ^ 59
       pub sends_small : IsWithinLimits g → length values ≡ condition_count g → AreEarly frozen →
@@ -283,36 +295,47 @@ module _ (g : Graph) (order : List ℕ) (topological : IsTopological g order) (D
         };
         -- the item is active: in the latest times it has this time, and the slots are free a round later
         acts = λ a more goes late are.
-            let s = with_faults values [] in
-            let h = sending.acts acts more goes late are in
-            let run : IsTimed g order more s (late n) = latest_is_timed g order more s late are n (omega arith) in
-            let q = in_queue g p x (here_sent g order topological s p l k inside) in
+            let scenario = with_faults values [] in
+            let gone = sending.acts acts more goes late are in
+            let run : IsTimed g order more scenario (late n) = latest_is_timed g order more scenario
+            late are n (omega arith) in
+            let own_item = in_queue g p x (here_sent g order topological scenario p within k inside) in
             let node_inside : node_of g p < length c.free = omega (arith, on, sending.places.free_count) in
             let is_set = get_or-set_same c.free (node_of g p) free 0 node_inside in
             let next = sent c x (node_of g p) time free in
-            let long : node_of g p < length h.frees = omega
-            (arith, node_inside, ap length h.free, length-set h.frees (node_of g p) (get_or c.free (node_of g p) 0)) in
+            let long : node_of g p < length gone.frees = omega (
+              arith,
+              node_inside,
+              ap length gone.free,
+              length-set gone.frees (node_of g p)
+                  (get_or c.free (node_of g p) 0),
+            ) in
             -- one item more is sent; the start, the end and other times stay
             record {
-              begun = h.begun;
-              frees = h.frees;
-              ended = h.ended;
-              none = h.none;
-              sent = subst (HasSent g order s (late n) p (k + 1) h.begun next.known) (sym (is_set ∙ is))
-                  (sent_active g order topological s p l more (late n) run h.begun c.known k
-                  (get_or c.free (node_of g p) 0) inside h.sent next.known time
-                  (omega (arith, q.within, sending.places.times)) refl on_item (time_there more goes late are));
-              keeps = record { times = length-set c.known.times x (Some time) ∙ h.keeps.times; ends = h.keeps.ends };
-              free = ap (λ fs. set fs (node_of g p) free) h.free
-                  ∙ set_twice h.frees (node_of g p) (get_or c.free (node_of g p) 0) free long
-                  ∙ ap (λ v. set h.frees (node_of g p) v) (sym is_set);
-              next = h.next;
+              begun = gone.begun;
+              frees = gone.frees;
+              ended = gone.ended;
+              none = gone.none;
+              sent = subst (HasSent g order scenario (late n) p (k + 1) gone.begun next.known) (sym (is_set ∙ is))
+                  (sent_active g order topological scenario p within more (late n) run gone.begun c.known k
+                  (get_or c.free (node_of g p) 0) inside gone.sent next.known time
+                  (omega (arith, own_item.within, sending.places.times)) refl on_item (time_there more goes late are));
+              keeps = record {
+                times = length-set c.known.times x (Some time)
+                    ∙ gone.keeps.times;
+                ends = gone.keeps.ends;
+              };
+              free = ap (λ fs. set fs (node_of g p) free) gone.free
+                  ∙ set_twice gone.frees (node_of g p) (get_or c.free (node_of g p) 0) free long
+                  ∙ ap (λ v. set gone.frees (node_of g p) v) (sym is_set);
+              next = gone.next;
             };
         idle = λ off. absurd (apart (sym acts ∙ off));
       }
         where
+          -- true isn't false
           apart : true ≡ false → ⊥
-          apart e = cc
+          apart conflict = cc
 
   -- once all items are sent, all is known before the next place: by whether the process is active
   pub sent_all : (c : ProgressState) → IsSending g order Done frozen values p (length (queue_of g p)) n c →
@@ -325,7 +348,7 @@ module _ (g : Graph) (order : List ℕ) (topological : IsTopological g order) (D
           ForLatest g order Done frozen values
           (λ late. IsAt g order (with_faults values []) (late n) (place order p + 1) c.known c.ready c.free)
       by true acts more goes late are =
-          let h = sending.acts acts more goes late are in
-          subst (IsAt g order (with_faults values []) (late n) (place order p + 1) c.known c.ready) (sym h.free)
-          (h.next c.known (get_or c.free (node_of g p) 0) h.sent h.keeps)
+          let gone = sending.acts acts more goes late are in
+          subst (IsAt g order (with_faults values []) (late n) (place order p + 1) c.known c.ready) (sym gone.free)
+          (gone.next c.known (get_or c.free (node_of g p) 0) gone.sent gone.keeps)
       by false off more goes late are = sending.idle off more goes late are

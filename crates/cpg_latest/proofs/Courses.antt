@@ -19,19 +19,20 @@ use Rattle.cpg_latest.proofs.TimedStarts.{known_small}
 
 -- setting the number at a place to what it is leaves the list as it is: both have the same number at each place
 pub set_same : (xs : List ℕ) (i : ℕ) → i < length xs → xs ≡ set xs i (get_or xs i 0)
-set_same xs i l =
+set_same xs i within =
     ext_get_or 0 xs (set xs i (get_or xs i 0)) (sym (length-set xs i (get_or xs i 0))) (λ j k. elim (cases_eq j i) [
       | inl e ↦ subst (λ m. get_or xs m 0 ≡ get_or (set xs i (get_or xs i 0)) m 0) (sym e)
-          (sym (get_or-set_same xs i (get_or xs i 0) 0 l))
+          (sym (get_or-set_same xs i (get_or xs i 0) 0 within))
       | inr other ↦ sym (get_or-set_other xs i j (get_or xs i 0) 0 other)
     ])
 
 -- of two numbers set at one place the later one stays: both lists have the same number at each place
 pub set_twice : (xs : List ℕ) (i a b : ℕ) → i < length xs → set (set xs i a) i b ≡ set xs i b
-set_twice xs i a b l = ext_get_or 0 (set (set xs i a) i b) (set xs i b)
+set_twice xs i a b within = ext_get_or 0 (set (set xs i a) i b) (set xs i b)
     (length-set (set xs i a) i b ∙ length-set xs i a ∙ sym (length-set xs i b)) (λ j k. elim (cases_eq j i) [
       | inl e ↦ subst (λ m. get_or (set (set xs i a) i b) m 0 ≡ get_or (set xs i b) m 0) (sym e)
-          (get_or-set_same (set xs i a) i b 0 (omega (arith, l, length-set xs i a)) ∙ sym (get_or-set_same xs i b 0 l))
+          (get_or-set_same (set xs i a) i b 0 (omega (arith, within, length-set xs i a))
+          ∙ sym (get_or-set_same xs i b 0 within))
       | inr other ↦ get_or-set_other (set xs i a) i j b 0 other ∙ get_or-set_other xs i j a 0 other
           ∙ sym (get_or-set_other xs i j b 0 other)
     ])
@@ -63,7 +64,11 @@ module _ (g : Graph) (order : List ℕ) (topological : IsTopological g order) (D
 -- the test for 0 fails on a number above 0
 pub some_faults : (n : ℕ) → (suc n == 0) ≡ false
 some_faults n =
-    elim (cases_Bool (suc n == 0)) [ inl e ↦ absurd (let k = eqb-true (suc n) 0 e in omega (arith, k)) | inr e ↦ e ]
+    elim (cases_Bool (suc n == 0)) [
+      | inl e ↦
+          absurd (let is_zero = eqb-true (suc n) 0 e in omega (arith, is_zero))
+      | inr e ↦ e
+    ]
 
 -- the latest end with n faults follows from the latest start with n faults and from the latest end with one less
 pub end_next : (g : Graph) (late : ℕ → Times) (n p : ℕ) →

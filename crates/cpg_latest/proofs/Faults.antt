@@ -19,8 +19,8 @@ if_le false f = omega arith
 
 -- a count that is taken on a weaker condition is no less
 if_more : (b c : Bool) (f : ℕ) → (b ≡ true → c ≡ true) → (if b then f else 0) ≤ (if c then f else 0)
-if_more true c f h = omega (arith, cond-true c f 0 (h refl))
-if_more false c f h = omega arith
+if_more true c f implies = omega (arith, cond-true c f 0 (implies refl))
+if_more false c f implies = omega arith
 
 -- some of the processes have no more faults than all: by induction on the list
 pub spent-le : (b : ℕ → Bool) (i : ℕ) (fs : List ℕ) → spent b i fs ≤ sum fs
@@ -35,22 +35,22 @@ spent-more b c i (f ∷ fs) h = omega (arith, if_more (b i) (c i) f (h i), spent
 
 -- an empty list has no faults at any place
 none_at : (fs : List ℕ) (j : ℕ) → length fs ≡ 0 → get_or fs j 0 ≡ 0
-none_at fs j e = get_or_past fs j 0 (omega (arith, e))
+none_at fs j is = get_or_past fs j 0 (omega (arith, is))
 
 -- if the process q passes the second test only, those that pass that one have at least the faults of q more: by induction down
 -- to the place j of q
 pub spent-one : (b c : ℕ → Bool) (i j q : ℕ) (fs : List ℕ) → ((r : ℕ) → b r ≡ true → c r ≡ true) → i + j ≡ q →
     b q ≡ false → c q ≡ true
     → spent b i fs + get_or fs j 0 ≤ spent c i fs
-spent-one b c i j q [] h e off on = omega (arith, none_at [] j refl)
-spent-one b c i zero q (f ∷ fs) h e off on =
-    let is : i ≡ q = omega (arith, e) in
+spent-one b c i j q [] h is off on = omega (arith, none_at [] j refl)
+spent-one b c i zero q (f ∷ fs) h same off on =
+    let is : i ≡ q = omega (arith, same) in
     omega (arith, cond-false (b i) f 0 (ap b is ∙ off), cond-true (c i) f 0 (ap c is ∙ on), spent-more b c (suc i) fs h)
-spent-one b c i (suc j) q (f ∷ fs) h e off on =
+spent-one b c i (suc j) q (f ∷ fs) h same off on =
     omega (
       arith,
       if_more (b i) (c i) f (h i),
-      spent-one b c (suc i) j q fs h (let is : suc i + j ≡ q = omega (arith, e) in is) off on,
+      spent-one b c (suc i) j q fs h (let is : suc i + j ≡ q = omega (arith, same) in is) off on,
     )
 
 -- ---- one process with more
@@ -84,6 +84,6 @@ add_at-grows (f ∷ fs) (suc p) j (suc q) = add_at-grows fs p j q
 
 -- the process itself has at least the faults that were added
 pub add_at-there : (fs : List ℕ) (p j : ℕ) → p < length fs → j ≤ get_or (add_at fs p j) p 0
-add_at-there [] p j l = absurd (omega arith)
-add_at-there (f ∷ fs) zero j l = omega arith
-add_at-there (f ∷ fs) (suc p) j l = add_at-there fs p j (omega arith)
+add_at-there [] p j within = absurd (omega arith)
+add_at-there (f ∷ fs) zero j within = omega arith
+add_at-there (f ∷ fs) (suc p) j within = add_at-there fs p j (omega arith)

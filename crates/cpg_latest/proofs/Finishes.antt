@@ -17,7 +17,7 @@ first_of (Some n) ys = greatest-cons n ys
 
 -- behind the list there is no end
 past : (os : List (Option ℕ)) (p : ℕ) → length os ≤ p → at os p ≡ 0
-past os p l = ap (λ o. unwrap_or o 0) (get_or_past os p None l)
+past os p at_most = ap (λ o. unwrap_or o 0) (get_or_past os p None at_most)
 
 -- no end is later than the greatest of all ends: by induction on the list
 pub at_most_finish : (os : List (Option ℕ)) (p : ℕ) →

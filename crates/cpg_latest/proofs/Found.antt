@@ -36,7 +36,7 @@ use Rattle.cpg_latest.proofs.TimedStarts.{both_ways_equal}
 
 -- each process is on a node of the graph
 pub on_graph : (g : Graph) → IsWithinLimits g → (p : ℕ) → p < process_count g → node_of g p < length g.nodes
-on_graph g w p l = (w.processes p _ l).node
+on_graph g limits p within = (limits.processes p _ within).node
 
 -- ---- at the first place
 
@@ -123,14 +123,15 @@ finish_by_places : (os : List (Option ℕ)) (n : ℕ) → length os ≡ n →
 finish_by_places os n long =
     both_ways_equal (greatest (map (there os) (numbers_below n))) (greatest (flat_map option_to_list os))
     (greatest-le (map (there os) (numbers_below n)) (greatest (flat_map option_to_list os))
-    (λ v c. let r = Contains-map_parts (there os) (numbers_below n) v c in
-    let most = at_most_finish os r.0 in
-    omega (arith, r.2, most)))
+    (λ v among. let end = Contains-map_parts (there os) (numbers_below n) v among in
+    let most = at_most_finish os end.0 in
+    omega (arith, end.2, most)))
     (elim (finish_at os) [
       | inl e ↦ omega (arith, e)
-      | inr r ↦ let above = greatest_above (map (there os) (numbers_below n)) (there os r.0)
-          (Contains-map (there os) (numbers_below n) r.0 (Contains-numbers n r.0 (omega (arith, r.1, long)))) in
-          omega (arith, r.2, above)
+      | inr last_end ↦ let above = greatest_above (map (there os) (numbers_below n)) (there os last_end.0)
+          (Contains-map (there os) (numbers_below n) last_end.0
+          (Contains-numbers n last_end.0 (omega (arith, last_end.1, long)))) in
+          omega (arith, last_end.2, above)
     ])
 
 -- a number of each lane, in a list, is the list of the numbers G i, if they are the same at each place
@@ -139,9 +140,9 @@ same_lists : (lanes : List (List ProgressState)) (count : ℕ) (F : List Progres
     ((i : ℕ) → i < count → F (get_or lanes i []) ≡ G i) →
     map F lanes ≡ map G (numbers_below count)
 same_lists lanes count F G long same = ext_get_or 0 (map F lanes) (map G (numbers_below count))
-    (length-map lanes F ∙ long ∙ sym (length-map-range_with_len G 0 count)) (λ i l.
-    let k : i < count = omega (arith, l, length-map lanes F, long) in
-    get_or-map F lanes i [] 0 (omega (arith, k, long)) ∙ same i k ∙ sym (get_or-map-below G count i 0 k))
+    (length-map lanes F ∙ long ∙ sym (length-map-range_with_len G 0 count)) (λ i within.
+    let there : i < count = omega (arith, within, length-map lanes F, long) in
+    get_or-map F lanes i [] 0 (omega (arith, there, long)) ∙ same i there ∙ sym (get_or-map-below G count i 0 there))
 
 -- given: the lanes of all tracks, in which all is known after the last place
 -- `urgent`, `lawful`: of the urgency order; `topological`: of the other; `all`: the tracks are all tracks of the graph;
@@ -165,40 +166,40 @@ module _ (g : Graph) (urgency order : List ℕ) (frozen : List (Option ℕ)) (tr
   frozen_are : AreFrozenTimes g order frozen
   frozen_are = record {
     count = settled.count;
-    each = λ x h f. settled.each x h f (place_in_order (process_count g) order topological.all (producer g x)
-        (let b = producer_in_range g order topological x h in omega (arith, b)));
+    each = λ x within f. settled.each x within f (place_in_order (process_count g) order topological.all (producer g x)
+        (let in_range = producer_in_range g order topological x within in omega (arith, in_range)));
     others = λ x f. settled.others x (λ h is d. true≢false (sym is ∙ f));
   }
 
   -- the end of a process in a lane's last course is its latest end with all the faults
   ends_same : (i p : ℕ) → i < length tracks → p < process_count g →
       end_in (last_course g (get_or lanes i [])).known p ≡ end_in (lates i g.faults) p
-  ends_same i p l h =
-      let course = (known.each i [] l).each g.faults
+  ends_same i p within inside =
+      let course = (known.each i [] within).each g.faults
       (record { known = record { times = []; ends = []; finish = 0 }; ready = []; free = [] }) (omega arith) in
       let at =
       course.at frozen (λ y k d. refl) (lates i) (latest_exist g order frozen (track_at tracks i) topological) in
       ap (λ o. unwrap_or o 0)
-      (at.knows.ends p h (place_in_order (process_count g) order topological.all p (omega (arith, h))))
+      (at.knows.ends p inside (place_in_order (process_count g) order topological.all p (omega (arith, inside))))
 
   -- the excess of a course is that of its track's latest times
   excess_same : (i : ℕ) → i < length tracks →
       excess_of_course g (last_course g (get_or lanes i [])) ≡ excess_in_run g (lates i g.faults)
-  excess_same i l = ap greatest (same_map (λ p. end_in (last_course g (get_or lanes i [])).known p - due g p)
+  excess_same i within = ap greatest (same_map (λ p. end_in (last_course g (get_or lanes i [])).known p - due g p)
       (excess_of g (lates i g.faults)) (numbers_below (process_count g))
-      (λ p c. ap (λ e. e - due g p) (ends_same i p l (numbers-Contains (process_count g) p c))))
+      (λ p there. ap (λ e. e - due g p) (ends_same i p within (numbers-Contains (process_count g) p there))))
 
   -- the finish of a lane's last course is the latest finish of its track with all the faults
   finish_same : (i : ℕ) → i < length tracks →
       finish_of g (last_course g (get_or lanes i [])) ≡ (lates i g.faults).finish
-  finish_same i l =
+  finish_same i within =
       ap greatest (same_map (λ p. end_in (last_course g (get_or lanes i [])).known p) (there (lates i g.faults).ends)
       (numbers_below (process_count g))
-      (λ p c. ends_same i p l (numbers-Contains (process_count g) p c)))
+      (λ p there. ends_same i p within (numbers-Contains (process_count g) p there)))
       ∙ finish_by_places (lates i g.faults).ends (process_count g)
-      (ap length ((are.each i l).ends g.faults (omega arith))
+      (ap length ((are.each i within).ends g.faults (omega arith))
       ∙ length-map-range_with_len (latest_end_by g (lates i) g.faults) 0 (process_count g))
-      ∙ sym ((are.each i l).finish g.faults (omega arith))
+      ∙ sym ((are.each i within).finish g.faults (omega arith))
 
   -- the greatest excess and the greatest finish of the last courses are those of the order
   pub figures_found : (excess worst : ℕ) → excess ≡ greatest (map (λ c. excess_of_course g (last_course g c)) lanes) →

@@ -14,19 +14,20 @@ module _ {X : Type 0} (Old New : ℕ → X → Type 0) (count : ℕ) where
   pub half_more : (m : ℕ) (xs more : List X) (x : X) → AreHalf Old New m count xs → m < count → New m x →
       more ≡ set xs m x →
       AreHalf Old New (m + 1) count more
-  half_more m xs more x a l new is = record {
-    count_is = ap length is ∙ length-set xs m x ∙ a.count_is;
+  half_more m xs more x half less new is = record {
+    count_is = ap length is ∙ length-set xs m x ∙ half.count_is;
     done = λ j d h k. elim (cases_eq j m) [
       | inl e ↦ subst (λ i. New i (get_or more i d)) (sym e)
-          (subst (New m) (sym (ap (λ ys. get_or ys m d) is ∙ get_or-set_same xs m x d (omega (arith, a.count_is)))) new)
+          (subst (New m) (sym (ap (λ ys. get_or ys m d) is ∙ get_or-set_same xs m x d
+          (omega (arith, half.count_is)))) new)
       | inr other ↦ subst (New j) (sym (ap (λ ys. get_or ys j d) is ∙ get_or-set_other xs m j x d other))
-          (a.done j d (omega arith) k)
+          (half.done j d (omega arith) k)
     ];
     left = λ j d h k. subst (Old j) (sym (ap (λ ys. get_or ys j d) is ∙ get_or-set_other xs m j x d (λ e. omega arith)))
-        (a.left j d (omega arith) k);
+        (half.left j d (omega arith) k);
   }
 
   -- after the last element all have the new fact
   pub half_all : (m : ℕ) (xs : List X) → AreHalf Old New m count xs → m ≡ count → (j : ℕ) (d : X) → j < count →
       New j (get_or xs j d)
-  half_all m xs a e j d l = a.done j d (omega arith) l
+  half_all m xs half is j d less = half.done j d (omega arith) less

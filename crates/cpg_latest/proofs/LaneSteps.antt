@@ -51,10 +51,10 @@ module _ (g : Graph) (order : List ℕ) (Done More : ℕ → Type 0) (frozen new
   pub sending_more : (values : List Bool) (p k n : ℕ) (c : ProgressState) →
       IsSending g order Done frozen values p k n c →
       IsSending g order More new values p k n c
-  sending_more values p k n c s = record {
-    places = s.places;
-    acts = λ on. for_more g order Done More frozen new values _ grows same (s.acts on);
-    idle = λ off. for_more g order Done More frozen new values _ grows same (s.idle off);
+  sending_more values p k n c sending = record {
+    places = sending.places;
+    acts = λ on. for_more g order Done More frozen new values _ grows same (sending.acts on);
+    idle = λ off. for_more g order Done More frozen new values _ grows same (sending.idle off);
   }
 
 -- each course of the lane of the i-th track has the fact P
@@ -75,17 +75,17 @@ module _ (g : Graph) (P Q : List Bool → ℕ → ProgressState → Type 0) (tra
   pub lanes_end : (m : ℕ) (lanes : List (List ProgressState)) →
       AreHalf (LaneHas g P tracks) (LaneHas g Q tracks) m count lanes → m ≡ count →
       AreLanes g Q tracks lanes
-  lanes_end m lanes half e = record {
+  lanes_end m lanes half is = record {
     count = half.count_is ∙ sym long;
     each =
-        λ i d l. half_all (LaneHas g P tracks) (LaneHas g Q tracks) count m lanes half e i d (omega (arith, l, long));
+        λ i d l. half_all (LaneHas g P tracks) (LaneHas g Q tracks) count m lanes half is i d (omega (arith, l, long));
   }
 
 -- given: a course c with n faults, in which p has sent the items before the place `at` of its queue (`s`), and the item
 -- at that place, whose frozen time is set if it has one
 -- `acts`, `sent`: p and this item are active in the outcome
 module _ (g : Graph) (order : List ℕ) (topological : IsTopological g order) (frozen : List (Option ℕ))
-    (values : List Bool) (p : ℕ) (l : p < process_count g) (on : node_of g p < length g.nodes)
+    (values : List Bool) (p : ℕ) (within : p < process_count g) (on : node_of g p < length g.nodes)
     (at : ℕ) (inside : at < length (queue_of g p))
     (n : ℕ) (few : n < g.faults + 1) (c : ProgressState)
     (s : IsSending g order (IsDone g order p (at + 1)) frozen values p at n c) (acts : active g values p ≡ true)
@@ -93,14 +93,15 @@ module _ (g : Graph) (order : List ℕ) (topological : IsTopological g order) (f
   -- under early frozen times the end of the process and the time of the send are below 2 ^ 59
   pub item_small : IsWithinLimits g → length values ≡ condition_count g → AreEarly frozen →
       (end_in c.known p < 2 ^ 59) × (send_at g frozen p (queued g p at) c < 2 ^ 59)
-  item_small limits long early = sends_small g order topological (IsDone g order p (at + 1)) frozen values p l on n few
-      at inside c s (send_one g order topological p l at inside) acts sent
+  item_small limits long early = sends_small g order topological (IsDone g order p (at + 1))
+      frozen values p within on n few
+      at inside c s (send_one g order topological p within at inside) acts sent
       (send_at g frozen p (queued g p at) c) refl limits long early
 
   -- the course once the item is sent has sent one item more
   pub item_sent : IsSending g order (IsDone g order p (at + 1)) frozen values p (at + 1) n
       (course_sent g frozen p (queued g p at) c)
-  item_sent = sends g order topological (IsDone g order p (at + 1)) frozen values p l on n few at inside c s
-      (send_one g order topological p l at inside) acts sent
+  item_sent = sends g order topological (IsDone g order p (at + 1)) frozen values p within on n few at inside c s
+      (send_one g order topological p within at inside) acts sent
       (send_at g frozen p (queued g p at) c) refl
       (send_at g frozen p (queued g p at) c + round g) refl

@@ -25,14 +25,16 @@ module _ (g : Graph) (order : List ℕ) (frozen : List (Option ℕ)) (values : L
   -- the latest times are below 2 ^ 59: an item of the graph is no later than in some run, and any other has the time 0
   pub late_small : AreSmall (late n)
   late_small = record {
-    times = λ x. elim (cases_lt x (item_count g)) [
+    times = λ at_most. elim (cases_lt at_most (item_count g)) [
       -- no later than in the run that reaches it
-      | inl l ↦
-          let r = reached.items x l in
+      | inl inside ↦
+          let in_run = reached.items at_most inside in
           let small =
-          run_small g order frozen (with_faults values r.faults) r.times within topological r.lawful early r.run in
-          omega (arith, r.is, small.times x)
-      | inr l ↦ let e : time_in (late n) x ≡ 0 = ap (λ o. unwrap_or o 0) (get_or_past (late n).times x None
+          run_small g order frozen (with_faults values in_run.faults) in_run.times within topological
+          in_run.lawful early in_run.run in
+          omega (arith, in_run.is, small.times at_most)
+      | inr past ↦ let no_time : time_in (late n) at_most ≡ 0 = ap (λ o. unwrap_or o 0)
+          (get_or_past (late n).times at_most None
           (omega (
             arith,
             ap length (are.times n few),
@@ -40,13 +42,15 @@ module _ (g : Graph) (order : List ℕ) (frozen : List (Option ℕ)) (values : L
           ))) in omega arith
     ];
     -- a process of the graph ends no later than in some run, and any other has the end 0
-    ends = λ p. elim (cases_lt p (process_count g)) [
+    ends = λ at_most. elim (cases_lt at_most (process_count g)) [
       | inl l ↦
-          let r = reached.ends p l in
+          let in_run = reached.ends at_most l in
           let small =
-          run_small g order frozen (with_faults values r.faults) r.times within topological r.lawful early r.run in
-          omega (arith, r.is, small.ends p)
-      | inr l ↦ let e : end_in (late n) p ≡ 0 = ap (λ o. unwrap_or o 0) (get_or_past (late n).ends p None
+          run_small g order frozen (with_faults values in_run.faults) in_run.times within topological
+          in_run.lawful early in_run.run in
+          omega (arith, in_run.is, small.ends at_most)
+      | inr past ↦ let no_end : end_in (late n) at_most ≡ 0 = ap (λ o. unwrap_or o 0)
+          (get_or_past (late n).ends at_most None
           (omega (
             arith,
             ap length (are.ends n few),

@@ -17,8 +17,8 @@ module _ (g : Graph) (order : List ℕ) (topological : IsTopological g order) (l
   pub latest_end_same : (p n : ℕ) → p < process_count g →
       ((i : ℕ) → i ≤ n → AgreeBefore g order (late i) (other i) (moment_of_end g order p)) →
       latest_end_by g late n p ≡ latest_end_by g other n p
-  latest_end_same p n l a =
-      let start = moment_of_start g order topological p l in
+  latest_end_same p n within a =
+      let start = moment_of_start g order topological p within in
       ap₂ (λ o v. option_map (λ begin. v) o) ((a n (omega arith)).items p (omega arith) (omega (arith, start)))
       (ap greatest (same_map (end_with g late n p) (end_with g other n p) (numbers_below (n + 1))
       (λ j c. ap (λ o. unwrap_or o 0 + duration g p j)
@@ -69,14 +69,16 @@ module _ (g : Graph) (order : List ℕ) (frozen : List (Option ℕ)) (values : L
       times = λ n few. same_map (time_by g order frozen (with_faults values []) (again_and_again (last g) n))
           (time_by g order frozen (with_faults values []) (again_and_again (suc (last g)) n))
           (numbers_below (item_count g))
-          (λ x c. let h = numbers-Contains (item_count g) x c in let k = moment_before_last g order topological x h in
+          (λ x there. let within = numbers-Contains (item_count g) x there in
+          let sooner = moment_before_last g order topological x within in
           time_by_same g order topological (with_faults values []) (again_and_again (last g) n)
           (again_and_again (suc (last g)) n) frozen frozen x
-          (agree_sooner g order _ _ (moment g order x) (last g) (omega arith) (settled (last g) n)) h refl);
+          (agree_sooner g order _ _ (moment g order x) (last g) (omega arith) (settled (last g) n)) within refl);
       ends = λ n few. same_map (latest_end_by g (again_and_again (last g)) n)
           (latest_end_by g (again_and_again (suc (last g))) n) (numbers_below (process_count g))
-          (λ p c. let h = numbers-Contains (process_count g) p c in let k = end_before_last g order topological p h in
-          latest_end_same g order topological (again_and_again (last g)) (again_and_again (suc (last g))) p n h
+          (λ p there. let within = numbers-Contains (process_count g) p there in
+          let sooner = end_before_last g order topological p within in
+          latest_end_same g order topological (again_and_again (last g)) (again_and_again (suc (last g))) p n within
           (λ i few. agree_sooner g order _ _ (moment_of_end g order p) (last g) (omega arith) (settled (last g) i)));
       finish = λ n few. refl;
     }

@@ -42,15 +42,15 @@ module _ (setting : Setting) (topological : IsTopological setting.problem.now se
       AreLanes setting.problem.now (HasSentTo setting new p (at + 1) at) tracks lanes
   can_send at inside old new lanes settled known =
       lanes_map setting.problem.now (HasSentTo setting old p at at) (HasSentTo setting new p (at + 1) at) tracks lanes
-      (λ values n c few s.
+      (λ values n c few sending.
       sending_more setting.problem.now setting.order.now (IsDone setting.problem.now setting.order.now p at)
       (IsDone setting.problem.now setting.order.now p (at + 1)) old new
       (λ y h d. send_grows setting.problem.now setting.order.now topological p l at inside y d)
-      (λ y h d. settled.others y
-      (λ e. let m = send_later setting.problem.now setting.order.now topological p l at inside y h d in
+      (λ y within d. settled.others y
+      (λ e. let later = send_later setting.problem.now setting.order.now topological p l at inside y within d in
       let same = ap (moment setting.problem.now setting.order.now) e in
-      absurd (omega (arith, m, same))))
-      values p at n c s)
+      absurd (omega (arith, later, same))))
+      values p at n c sending)
       known
 
   -- once all items of p are sent, all is known before the next place, since the items done are just those from processes before
@@ -64,8 +64,9 @@ module _ (setting : Setting) (topological : IsTopological setting.problem.now se
     settled = settled_as setting.problem.now setting.order.now topological limits
         (IsDone setting.problem.now setting.order.now p (length (queue_of setting.problem.now p)))
         (IsEarlier setting.problem.now setting.order.now (place setting.order.now p + 1)) frozen s.settled
-        (λ y h f m. next_done setting.problem.now setting.order.now topological p l y h f m)
-        (λ y h d. next_earlier setting.problem.now setting.order.now topological p l y h d);
+        (λ y within it_is_frozen earlier. next_done setting.problem.now setting.order.now topological p l y
+        within it_is_frozen earlier)
+        (λ y within d. next_earlier setting.problem.now setting.order.now topological p l y within d);
     known = lanes_map setting.problem.now
         (HasSentTo setting frozen p (length (queue_of setting.problem.now p)) (length (queue_of setting.problem.now p)))
         (IsBefore setting frozen (place setting.order.now p + 1)) tracks lanes
@@ -73,7 +74,8 @@ module _ (setting : Setting) (topological : IsTopological setting.problem.now se
         course_more setting.problem.now setting.order.now
         (IsDone setting.problem.now setting.order.now p (length (queue_of setting.problem.now p)))
         (IsEarlier setting.problem.now setting.order.now (place setting.order.now p + 1)) frozen frozen
-        (λ y h d. next_earlier setting.problem.now setting.order.now topological p l y h d) (λ y h d. refl) values
+        (λ y within d. next_earlier setting.problem.now setting.order.now topological p l y within d)
+        (λ y h d. refl) values
         (place setting.order.now p + 1) n c
         (sent_all setting.problem.now setting.order.now topological (IsDone setting.problem.now setting.order.now p
         (length (queue_of setting.problem.now p))) frozen values p l on n few c sending))

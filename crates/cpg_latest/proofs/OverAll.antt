@@ -38,7 +38,7 @@ use Rattle.cpg_latest.proofs.TimedSends.{here_sent, send_is}
 
 -- a and b are equal if they are so as options
 some_same : (a b : ℕ) → Some a ≡ Some b → a ≡ b
-some_same a b e = ap (λ o. unwrap_or o 0) e
+some_same a b is = ap (λ o. unwrap_or o 0) is
 
 module _ (Acts : ℕ → Type 0) (Is : ℕ → ℕ → Type 0) where
   -- over no tracks there is no latest time
@@ -49,18 +49,19 @@ module _ (Acts : ℕ → Type 0) (Is : ℕ → ℕ → Type 0) where
     -- a track in which the item isn't active leaves the latest time as it is
     pub over_idle : (latest : Option ℕ) → IsLatestOver m Acts Is latest → (Acts m → ⊥) →
         IsLatestOver (m + 1) Acts Is (later latest None)
-    over_idle None o off = record {
-      reached = λ time e. absurd (none-some time e);
+    over_idle None before off = record {
+      reached = λ time is. absurd (none-some time is);
       above = λ i l acts. elim (cases_lt i m) [
-        | inl h ↦ o.above i h acts
-        | inr h ↦ absurd (off (subst Acts (let e : i ≡ m = omega arith in e) acts))
+        | inl earlier ↦ before.above i earlier acts
+        | inr last ↦ absurd (off (subst Acts (let same : i ≡ m = omega arith in same) acts))
       ];
     }
-    over_idle (Some most) o off = record {
-      reached = λ time e. let r = o.reached time e in (r.0, omega (arith, r.1), r.2, r.3);
+    over_idle (Some most) before off = record {
+      reached = λ time is. let reached = before.reached time is in
+          (reached.0, omega (arith, reached.1), reached.2, reached.3);
       above = λ i l acts. elim (cases_lt i m) [
-        | inl h ↦ o.above i h acts
-        | inr h ↦ absurd (off (subst Acts (let e : i ≡ m = omega arith in e) acts))
+        | inl earlier ↦ before.above i earlier acts
+        | inr last ↦ absurd (off (subst Acts (let same : i ≡ m = omega arith in same) acts))
       ];
     }
 
@@ -68,25 +69,45 @@ module _ (Acts : ℕ → Type 0) (Is : ℕ → ℕ → Type 0) where
     pub over_acting : (latest : Option ℕ) (time : ℕ) → IsLatestOver m Acts Is latest → Acts m → Is m time →
         IsLatestOver (m + 1) Acts Is (later latest (Some time))
     -- it is the first track in which the item is active
-    over_acting None time o acts is = record {
-      reached = λ other e. (m, omega arith, acts, subst (Is m) (some_same time other e) is);
-      above = λ i l on. elim (cases_lt i m) [
-        | inl h ↦ let a = o.above i h on in absurd (none-some a.1 a.3)
-        | inr h ↦ (time, time, subst (λ j. Is j time) (let e : m ≡ i = omega arith in e) is, refl, omega arith)
+    over_acting None time before acts is = record {
+      reached = λ other has_latest. (m, omega arith, acts, subst (Is m) (some_same time other has_latest) is);
+      above = λ i within on. elim (cases_lt i m) [
+        | inl earlier ↦ let in_track = before.above i earlier on in absurd (none-some in_track.1 in_track.3)
+        | inr last ↦ (
+          time,
+          time,
+          subst (λ j. Is j time) (let same_track : m ≡ i = omega arith in
+              same_track) is,
+          refl,
+          omega arith,
+        )
       ];
     }
     -- the greater of both times is reached in this track or in an earlier one
-    over_acting (Some most) time o acts is = record {
-      reached = λ other e. let same = some_same (max most time) other e in elim (cases_lt most time) [
-        | inl h ↦ (m, omega arith, acts, subst (Is m) (let k : time ≡ other = omega (arith, same, h) in k) is)
-        | inr h ↦ let r = o.reached other (ap Some (let k : most ≡ other = omega (arith, same, h) in k)) in
-            (r.0, omega (arith, r.1), r.2, r.3)
+    over_acting (Some most) time before acts is = record {
+      reached = λ other has_latest. let same = some_same (max most time) other has_latest in elim (cases_lt most time) [
+        | inl less ↦ (
+          m,
+          omega arith,
+          acts,
+          subst (Is m) (let new_is : time ≡ other = omega (arith, same, less) in new_is) is,
+        )
+        | inr not_less ↦ let reached = before.reached other
+            (ap Some (let old_is : most ≡ other = omega (arith, same, not_less) in old_is)) in
+            (reached.0, omega (arith, reached.1), reached.2, reached.3)
       ];
-      above = λ i l on. elim (cases_lt i m) [
-        | inl h ↦ let a = o.above i h on in
-            let e = some_same most a.1 a.3 in
-            (a.0, max most time, a.2, refl, omega (arith, a.4, e))
-        | inr h ↦ (time, max most time, subst (λ j. Is j time) (let e : m ≡ i = omega arith in e) is, refl, omega arith)
+      above = λ i within on. elim (cases_lt i m) [
+        | inl earlier ↦ let in_track = before.above i earlier on in
+            let same_most = some_same most in_track.1 in_track.3 in
+            (in_track.0, max most time, in_track.2, refl, omega (arith, in_track.4, same_most))
+        | inr last ↦ (
+          time,
+          max most time,
+          subst (λ j. Is j time) (let same_track : m ≡ i = omega arith in
+              same_track) is,
+          refl,
+          omega arith,
+        )
       ];
     }
 
@@ -116,7 +137,7 @@ module _ (g : Graph) (urgency order : List ℕ) (frozen : List (Option ℕ)) (tr
 
   -- each track has a value for each condition
   pub long_track : (i : ℕ) → i < length tracks → length (track_at tracks i) ≡ condition_count g
-  long_track i l = track_long g urgency order frozen tracks lates urgent lawful topological are i l
+  long_track i within = track_long g urgency order frozen tracks lates urgent lawful topological are i within
 
   -- given: the latest of the times that the item x has in the tracks in which it is active
   -- `over`: `latest` is the latest over the tracks; `on`, `off`: `Acts` holds in the tracks in which x is active;
@@ -130,14 +151,20 @@ module _ (g : Graph) (urgency order : List ℕ) (frozen : List (Option ℕ)) (tr
     -- `latest` is a time of the item in some track, no track has a later one, and it is none only if all lack it
     latest_frozen : IsLatestFrozen g order tracks lates x latest
     latest_frozen = record {
-      reached = λ time e. let r = over.reached time e in (r.0, r.1, off r.0 r.1 r.2, sym (right r.0 time r.1 r.2 r.3));
-      greatest = λ time i e l acts.
-          let a = over.above i l (on i l acts) in
-          let same = some_same time a.1 (sym e ∙ a.3) in
-          let is = right i a.0 l (on i l acts) a.2 in
-          omega (arith, a.4, same, is);
-      none = λ e i l. elim (cases_Bool (acts_in g tracks x i)) [
-        | inl acts ↦ let a = over.above i l (on i l acts) in absurd (none-some a.1 (sym e ∙ a.3))
+      reached = λ time is. let in_track = over.reached time is in (
+        in_track.0,
+        in_track.1,
+        off in_track.0 in_track.1 in_track.2,
+        sym (right in_track.0 time in_track.1 in_track.2 in_track.3),
+      );
+      greatest = λ time i has_latest inside acts.
+          let in_track = over.above i inside (on i inside acts) in
+          let same = some_same time in_track.1 (sym has_latest ∙ in_track.3) in
+          let is = right i in_track.0 inside (on i inside acts) in_track.2 in
+          omega (arith, in_track.4, same, is);
+      none = λ no_latest i inside. elim (cases_Bool (acts_in g tracks x i)) [
+        | inl acts ↦ let in_track = over.above i inside (on i inside acts) in
+            absurd (none-some in_track.1 (sym no_latest ∙ in_track.3))
         | inr idle ↦ idle
       ];
     }
@@ -153,14 +180,14 @@ module _ (g : Graph) (urgency order : List ℕ) (frozen : List (Option ℕ)) (tr
     -- in the latest times of the track, an active item without a frozen time has its unfrozen time
     pub unfrozen_is_time : time_in (lates i g.faults) x ≡ unfrozen_in g order tracks lates x i
     unfrozen_is_time =
-        let is = late_active g order frozen (with_faults (track_at tracks i) []) (lates i)
+        let late_is = late_active g order frozen (with_faults (track_at tracks i) []) (lates i)
         (latest_exist g order frozen (track_at tracks i) topological) g.faults (omega arith) x within acts in
-        let u = unfrozen_in g order tracks lates x i in
-        is ∙ ap (λ o. greatest (u ∷ option_to_list o)) unset ∙ alone u
+        let unfrozen = unfrozen_in g order tracks lates x i in
+        late_is ∙ ap (λ o. greatest (unfrozen ∷ option_to_list o)) unset ∙ alone unfrozen
       where
         -- the greatest of one number is that number
         alone : (u : ℕ) → greatest (u ∷ []) ≡ u
-        alone u = let c = greatest-cons u [] in omega (arith, c)
+        alone u = let its_greatest = greatest-cons u [] in omega (arith, its_greatest)
 
     -- the item has no frozen time to wait for
     pub no_frozen : frozen_in frozen x ≡ 0
@@ -170,7 +197,7 @@ module _ (g : Graph) (urgency order : List ℕ) (frozen : List (Option ℕ)) (tr
 
   -- given: a process without a frozen time, and lanes in which all is known before its place
   -- `limits`, `early`: no number overflows; `unset`: the start has no frozen time yet; `before`: what the lanes know
-  module _ (p : ℕ) (l : p < process_count g) (on : node_of g p < length g.nodes) (limits : IsWithinLimits g)
+  module _ (p : ℕ) (within : p < process_count g) (on : node_of g p < length g.nodes) (limits : IsWithinLimits g)
       (early : AreEarly frozen) (unset : get_or frozen p None ≡ None)
       (lanes : List (List ProgressState))
       (before : AreLanes g
@@ -180,15 +207,15 @@ module _ (g : Graph) (urgency order : List ℕ) (frozen : List (Option ℕ)) (tr
     pub tell_starts : TellStarts g tracks lanes
     tell_starts = record {
       count = before.count;
-      each = λ i d h.
-          let lane = before.each i d h in
+      each = λ i d inside.
+          let lane = before.each i d inside in
           let course = lane.each g.faults
           (record { known = record { times = []; ends = []; finish = 0 }; ready = []; free = [] }) (omega arith) in
           record {
             count = lane.count;
             ready = course.places.ready_count;
             small = course_small g order topological (IsEarlier g order (place order p)) frozen
-                (track_at tracks i) limits (long_track i h) early g.faults (omega arith) (place order p)
+                (track_at tracks i) limits (long_track i inside) early g.faults (omega arith) (place order p)
                 (last_course g (get_or lanes i d)) course;
           };
     }
@@ -199,30 +226,31 @@ module _ (g : Graph) (urgency order : List ℕ) (frozen : List (Option ℕ)) (tr
     start_over latest over = unfrozen_over p (omega arith) (λ i. active g (track_at tracks i) p ≡ true)
         (λ i time. IsUnfrozenStart g (track_at tracks i) p (last_course g (lane_at lanes i)) time) latest
         (subst (λ m. IsLatestStart g tracks p lanes m latest) before.count over)
-        (λ i h acts. sym (ap (item_active g (track_at tracks i)) (item_at-start g p l)) ∙ acts)
-        (λ i h acts. ap (item_active g (track_at tracks i)) (item_at-start g p l) ∙ acts)
+        (λ i inside acts. sym (ap (item_active g (track_at tracks i)) (item_at-start g p within)) ∙ acts)
+        (λ i inside acts. ap (item_active g (track_at tracks i)) (item_at-start g p within) ∙ acts)
         right
       where
         -- the unfrozen start by a lane's last course is the latest unfrozen time of p in that track
         right : (i time : ℕ) → i < length tracks → active g (track_at tracks i) p ≡ true →
             IsUnfrozenStart g (track_at tracks i) p (last_course g (lane_at lanes i)) time →
             time ≡ unfrozen_in g order tracks lates p i
-        right i time h acts is =
-            let s = with_faults (track_at tracks i) [] in
-            let lane = before.each i [] h in
-            let c = last_course g (lane_at lanes i) in
+        right i time inside acts is =
+            let scenario = with_faults (track_at tracks i) [] in
+            let lane = before.each i [] inside in
+            let last = last_course g (lane_at lanes i) in
             let course = lane.each g.faults
             (record { known = record { times = []; ends = []; finish = 0 }; ready = []; free = [] })
             (omega arith) in
-            let start_acts = ap (item_active g (track_at tracks i)) (item_at-start g p l) ∙ acts in
+            let start_acts = ap (item_active g (track_at tracks i)) (item_at-start g p within) ∙ acts in
             -- its frozen time isn't set, so its time is its unfrozen one
             let zero_is = no_frozen i p (omega arith) start_acts unset in
             let time_is = unfrozen_is_time i p (omega arith) start_acts unset in
             -- the start follows from what the course has before the place of p
-            let start = start_right g order topological frozen s (lates i g.faults)
-            (latest_is_timed g order frozen s (lates i) (latest_exist g order frozen (track_at tracks i) topological)
-            g.faults (omega arith)) (place order p) p l refl on
-            c.known c.ready c.free (course.at frozen (λ y k d. refl) (lates i) (latest_exist g order frozen
+            let start = start_right g order topological frozen scenario (lates i g.faults)
+            (latest_is_timed g order frozen scenario (lates i)
+            (latest_exist g order frozen (track_at tracks i) topological)
+            g.faults (omega arith)) (place order p) p within refl on
+            last.known last.ready last.free (course.at frozen (λ y k d. refl) (lates i) (latest_exist g order frozen
             (track_at tracks i) topological)) course.places.ready_count course.places.free_count
             is.is_ready.heard is.is_ready.is_heard acts is.ready (max time (frozen_in frozen p)) is.is_ready.is
             (ap (λ v. max v (frozen_in frozen p)) is.is) in
@@ -244,8 +272,8 @@ module _ (g : Graph) (urgency order : List ℕ) (frozen : List (Option ℕ)) (tr
     -- in each track in which p is active, its last course has the latest end of p with all the faults
     pub end_known : (i : ℕ) (d : List ProgressState) → i < length tracks → active g (track_at tracks i) p ≡ true →
         end_in (last_course g (get_or lanes i d)).known p ≡ end_in (lates i g.faults) p
-    end_known i d h acts =
-        let course = (before.each i d h).each g.faults
+    end_known i d within acts =
+        let course = (before.each i d within).each g.faults
         (record { known = record { times = []; ends = []; finish = 0 }; ready = []; free = [] }) (omega arith) in
         let gone = course.acts acts frozen (λ y k d. refl) (lates i)
         (latest_exist g order frozen (track_at tracks i) topological) in
@@ -255,8 +283,8 @@ module _ (g : Graph) (urgency order : List ℕ) (frozen : List (Option ℕ)) (tr
     pub tell_sends : TellSends g tracks p lanes
     tell_sends = record {
       count = before.count;
-      each = λ i d h.
-          let lane = before.each i d h in
+      each = λ i d within.
+          let lane = before.each i d within in
           let course = lane.each g.faults
           (record { known = record { times = []; ends = []; finish = 0 }; ready = []; free = [] }) (omega arith) in
           record {
@@ -264,8 +292,8 @@ module _ (g : Graph) (urgency order : List ℕ) (frozen : List (Option ℕ)) (tr
             free = course.places.free_count;
             early = λ acts.
                 let small = latest_small g order topological (IsDone g order p k) frozen (track_at tracks i) limits
-                (long_track i h) early g.faults (omega arith) in
-                omega (arith, end_known i d h acts, small.ends p);
+                (long_track i within) early g.faults (omega arith) in
+                omega (arith, end_known i d within acts, small.ends p);
           };
     }
 
@@ -279,34 +307,34 @@ module _ (g : Graph) (urgency order : List ℕ) (frozen : List (Option ℕ)) (tr
     send_over latest over = unfrozen_over x (in_queue g p x sent_there).within (λ i. AreSent g (track_at tracks i) p x)
         (λ i time. time ≡ unfrozen_send g p (last_course g (lane_at lanes i))) latest
         (subst (λ m. IsLatestSend g tracks p x lanes m latest) before.count over)
-        (λ i h acts. record {
+        (λ i below acts. record {
           acts = sym (ap (active g (track_at tracks i)) (in_queue g p x sent_there).by)
               ∙ producer_active g (track_at tracks i) (item_at g x) acts;
           sent = acts;
         })
-        (λ i h are. are.sent)
+        (λ i below are. are.sent)
         right
       where
         -- the unfrozen time by a lane's last course is the latest unfrozen time of x in that track
         right : (i time : ℕ) → i < length tracks → AreSent g (track_at tracks i) p x →
             time ≡ unfrozen_send g p (last_course g (lane_at lanes i)) →
             time ≡ unfrozen_in g order tracks lates x i
-        right i time h are is =
-            let s = with_faults (track_at tracks i) [] in
-            let course = (before.each i [] h).each g.faults
+        right i time within are is =
+            let scenario = with_faults (track_at tracks i) [] in
+            let course = (before.each i [] within).each g.faults
             (record { known = record { times = []; ends = []; finish = 0 }; ready = []; free = [] })
             (omega arith) in
             let gone = course.acts are.acts frozen (λ y k d. refl) (lates i)
             (latest_exist g order frozen (track_at tracks i) topological) in
-            let c = last_course g (lane_at lanes i) in
+            let last = last_course g (lane_at lanes i) in
             -- its frozen time isn't set, so its time is its unfrozen one
             let zero_is = no_frozen i x (in_queue g p x sent_there).within are.sent unset in
             let time_is = unfrozen_is_time i x (in_queue g p x sent_there).within are.sent unset in
             -- the send follows from the end of p and from when the slots are free
-            let send = send_is g order topological s p l k inside frozen (lates i g.faults)
-            (latest_is_timed g order frozen s (lates i)
+            let send = send_is g order topological scenario p l k inside frozen (lates i g.faults)
+            (latest_is_timed g order frozen scenario (lates i)
             (latest_exist g order frozen (track_at tracks i) topological) g.faults (omega arith))
-            (get_or c.free (node_of g p) 0) gone.sent.slots_free are.sent in
-            let same = is ∙ ap (λ e. max (next_slot g (node_of g p) e) (get_or c.free (node_of g p) 0))
-            (end_known i [] h are.acts) in
+            (get_or last.free (node_of g p) 0) gone.sent.slots_free are.sent in
+            let same = is ∙ ap (λ e. max (next_slot g (node_of g p) e) (get_or last.free (node_of g p) 0))
+            (end_known i [] within are.acts) in
             omega (arith, zero_is, time_is, send, same)

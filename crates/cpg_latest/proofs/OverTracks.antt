@@ -36,32 +36,34 @@ module _ (g : Graph) (urgency order : List ℕ) (frozen : List (Option ℕ)) (tr
     (are : AreLatestOf g order frozen tracks lates) where
   -- each track has a value for each condition
   pub track_long : (i : ℕ) → i < length tracks → length (track_at tracks i) ≡ condition_count g
-  track_long i l =
-      let c = Contains-permutation tracks (filter (is_track g) (outcomes (condition_count g))) (track_at tracks i)
+  track_long i within =
+      let there = Contains-permutation tracks (filter (is_track g) (outcomes (condition_count g))) (track_at tracks i)
       (IsPermutation-sym (filter (is_track g) (outcomes (condition_count g))) tracks are.all.all)
-      (Contains-get_or tracks i [] l) in
+      (Contains-get_or tracks i [] within) in
       length_of_outcome (condition_count g) (track_at tracks i)
-      (Contains-filter_parts (is_track g) (outcomes (condition_count g)) (track_at tracks i) c).0
+      (Contains-filter_parts (is_track g) (outcomes (condition_count g)) (track_at tracks i) there).0
 
   -- the latest times of a track are reached in runs
   of_track : (i : ℕ) → i < length tracks → AreReached g order frozen (track_at tracks i) (lates i) g.faults
-  of_track i l = are_reached g order frozen (track_at tracks i) (lates i) topological (track_long i l)
-      (are.each i l) g.faults (omega arith)
+  of_track i within = are_reached g order frozen (track_at tracks i) (lates i) topological (track_long i within)
+      (are.each i within) g.faults (omega arith)
 
   -- a scenario's run is no later than the latest times of its track
   record IsBelow (s : Scenario) (t : Times) : Type 0 where
+    -- the track of the scenario
     track : HasTrack g urgency urgent lawful s tracks
+    -- no time of the run is later than that of the track with all the faults
     no_later : IsNoLater g order (with_faults (track_at tracks track.place) s.faults) t (lates track.place g.faults)
 
   -- each run is no later than the latest times, with all the faults, of the track of its scenario
   is_below : (s : Scenario) (t : Times) → IsScenario g s → IsRun g order frozen s t → IsBelow s t
   is_below s t law run =
-      let h = has_track g urgency urgent lawful s tracks are.all in
+      let own_track = has_track g urgency urgent lawful s tracks are.all in
       record {
-        track = h;
-        no_later = no_later g order frozen (with_faults (track_at tracks h.place) s.faults) t
-            (lates h.place) topological (h.run order frozen t topological run)
-            (are.each h.place h.there) g.faults law.budget (omega arith);
+        track = own_track;
+        no_later = no_later g order frozen (with_faults (track_at tracks own_track.place) s.faults) t
+            (lates own_track.place) topological (own_track.run order frozen t topological run)
+            (are.each own_track.place own_track.there) g.faults law.budget (omega arith);
       }
 
   -- ---- frozen times
@@ -69,51 +71,60 @@ module _ (g : Graph) (urgency order : List ℕ) (frozen : List (Option ℕ)) (tr
   -- a time that an item would have in some run is no later than the one that it would have in some track
   would_below : (x time : ℕ) → x < item_count g → WouldHave g order frozen x time →
       (i : ℕ) × (i < length tracks) × (acts_in g tracks x i ≡ true) × (time ≤ unfrozen_in g order tracks lates x i)
-  would_below x time l w =
-      let b = is_below w.scenario w.times w.lawful w.run in (
-        b.track.place,
-        b.track.there,
-        sym (b.track.active x l) ∙ w.active,
-        omega (arith, w.has, b.track.unfrozen order w.times x topological l, b.no_later.unfrozen x l),
+  would_below x time within would =
+      let below = is_below would.scenario would.times would.lawful would.run in (
+        below.track.place,
+        below.track.there,
+        sym (below.track.active x within) ∙ would.active,
+        omega (
+          arith,
+          would.has,
+          below.track.unfrozen order would.times x topological within,
+          below.no_later.unfrozen x within,
+        ),
       )
 
   -- the time that an item would have in a track is one that it would have in some run: one is as late, and none is later
   would_have : (x i : ℕ) → x < item_count g → i < length tracks → acts_in g tracks x i ≡ true →
       WouldHave g order frozen x (unfrozen_in g order tracks lates x i)
-  would_have x i l k acts =
-      let r = (of_track i k).unfrozen x l in
-      let n = no_later g order frozen (with_faults (track_at tracks i) r.faults) r.times (lates i) topological r.run
-      (are.each i k) g.faults r.few (omega arith) in
+  would_have x i within there acts =
+      let reached = (of_track i there).unfrozen x within in
+      let none_later = no_later g order frozen (with_faults (track_at tracks i) reached.faults) reached.times
+      (lates i) topological reached.run
+      (are.each i there) g.faults reached.few (omega arith) in
       record {
-        scenario = with_faults (track_at tracks i) r.faults;
-        lawful = r.lawful;
-        times = r.times;
-        run = r.run;
+        scenario = with_faults (track_at tracks i) reached.faults;
+        lawful = reached.lawful;
+        times = reached.times;
+        run = reached.run;
         active = acts;
-        has = omega (arith, r.is, n.unfrozen x l);
+        has = omega (arith, reached.is, none_later.unfrozen x within);
       }
 
   -- the latest of the times that an item would have in the tracks is the greatest that it would have in any run
   pub unfrozen_is : (x : ℕ) (latest : Option ℕ) → x < item_count g → IsLatestFrozen g order tracks lates x latest →
       IsUnfrozenTime g order frozen x latest
-  unfrozen_is x latest l is = record {
+  unfrozen_is x latest within is = record {
     reached =
-        λ time e. let r = is.reached time e in subst (WouldHave g order frozen x) r.3 (would_have x r.0 l r.1 r.2);
-    greatest = λ time other e w. let b = would_below x other l w in omega (arith, b.3, is.greatest time b.0 e b.1 b.2);
-    none = λ e time w. let b = would_below x time l w in true≢false (sym b.2 ∙ is.none e b.0 b.1);
+        λ time has_latest. let in_track = is.reached time has_latest in
+        subst (WouldHave g order frozen x) in_track.3 (would_have x in_track.0 within in_track.1 in_track.2);
+    greatest = λ time other has_latest would. let below = would_below x other within would in
+        omega (arith, below.3, is.greatest time below.0 has_latest below.1 below.2);
+    none = λ no_latest time would. let below = would_below x time within would in
+        true≢false (sym below.2 ∙ is.none no_latest below.0 below.1);
   }
 
   -- so if its frozen time is that, it is right
   frozen_time : (x : ℕ) → x < item_count g → IsLatestFrozen g order tracks lates x (get_or frozen x None) →
       IsFrozenTime g order frozen x
-  frozen_time x l is = let u = unfrozen_is x (get_or frozen x None) l is in
-      record { reached = u.reached; greatest = u.greatest; none = u.none }
+  frozen_time x within is = let unfrozen = unfrozen_is x (get_or frozen x None) within is in
+      record { reached = unfrozen.reached; greatest = unfrozen.greatest; none = unfrozen.none }
 
   -- the frozen times that the tracks give are those of the graph under the order
   pub frozen_times : AreLatestFrozen g order tracks lates frozen → AreFrozenTimes g order frozen
   frozen_times is = record {
     count = is.count;
-    each = λ x l f. frozen_time x l (is.each x l f);
+    each = λ x within f. frozen_time x within (is.each x within f);
     others = is.others;
   }
 
@@ -134,20 +145,20 @@ module _ (g : Graph) (urgency order : List ℕ) (frozen : List (Option ℕ)) (tr
     -- the number of a track is at most the greatest
     below_most : (i : ℕ) → i < length tracks → of (lates i g.faults) ≤ most
     unfolding most
-    below_most i l =
+    below_most i within =
         greatest_above (map (λ i. of (lates i g.faults)) (numbers_below (length tracks))) (of (lates i g.faults))
         (Contains-map (λ i. of (lates i g.faults)) (numbers_below (length tracks)) i
-        (Contains-numbers (length tracks) i l))
+        (Contains-numbers (length tracks) i within))
 
     -- no run has a number above the greatest of the tracks, as it is no later than the latest times of its track
     above : (s : Scenario) (t : Times) → IsScenario g s → IsRun g order frozen s t → of t ≤ most
     above s t law run =
-        let b = is_below s t law run in
+        let below = is_below s t law run in
         omega (
           arith,
-          below_most b.track.place b.track.there,
-          grows (with_faults (track_at tracks b.track.place) s.faults) t b.track.place b.track.there
-              (b.track.run order frozen t topological run) b.no_later refl,
+          below_most below.track.place below.track.there,
+          grows (with_faults (track_at tracks below.track.place) s.faults) t below.track.place below.track.there
+              (below.track.run order frozen t topological run) below.no_later refl,
         )
 
     -- some run of some scenario comes to the number
@@ -157,39 +168,45 @@ module _ (g : Graph) (urgency order : List ℕ) (frozen : List (Option ℕ)) (tr
     -- if the greatest number is 0, the run of the scenario of zeros has it
     nothing : most ≡ 0 → HasSome most
     unfolding HasSome
-    nothing e =
-        let s = zero_scenario g in
-        let run = run_exists g order frozen s topological in (
-          s,
-          the_run g order frozen s topological,
+    nothing zero_is =
+        let scenario = zero_scenario g in
+        let run = run_exists g order frozen scenario topological in (
+          scenario,
+          the_run g order frozen scenario topological,
           zero_lawful g,
           run,
-          omega (arith, e, above s (the_run g order frozen s topological) (zero_lawful g) run),
+          omega (arith, zero_is, above scenario (the_run g order frozen scenario topological) (zero_lawful g) run),
         )
 
     -- if the greatest number is that of a track, and some run comes to it, that run has it
     found : (i : ℕ) → i < length tracks → of (lates i g.faults) ≡ most →
         IsReached g order frozen (track_at tracks i) g.faults of (of (lates i g.faults)) → HasSome most
     unfolding HasSome
-    found i l e r = (
-      with_faults (track_at tracks i) r.faults,
-      r.times,
-      r.lawful,
-      r.run,
-      omega (arith, e, r.is, above (with_faults (track_at tracks i) r.faults) r.times r.lawful r.run),
+    found i within is is_reached = (
+      with_faults (track_at tracks i) is_reached.faults,
+      is_reached.times,
+      is_reached.lawful,
+      is_reached.run,
+      omega (
+        arith,
+        is,
+        is_reached.is,
+        above (with_faults (track_at tracks i) is_reached.faults) is_reached.times
+            is_reached.lawful is_reached.run,
+      ),
     )
 
     -- some run has the greatest number: by whether it is 0 or the number of a track, which is 0 or reached
     at_most : HasSome most
     unfolding most
     at_most = elim (greatest_cases (map (λ i. of (lates i g.faults)) (numbers_below (length tracks)))) [
-      | inl e ↦ nothing e
-      | inr c ↦
-          let r = Contains-map_parts (λ i. of (lates i g.faults)) (numbers_below (length tracks)) _ c in
-          let l = numbers-Contains (length tracks) r.0 r.1 in
-          elim (reached r.0 l) [
-            | inl z ↦ nothing (sym r.2 ∙ z)
-            | inr k ↦ found r.0 l r.2 k
+      | inl is ↦ nothing is
+      | inr among ↦
+          let from = Contains-map_parts (λ i. of (lates i g.faults)) (numbers_below (length tracks)) _ among in
+          let within = numbers-Contains (length tracks) from.0 from.1 in
+          elim (reached from.0 within) [
+            | inl zero_is ↦ nothing (sym from.2 ∙ zero_is)
+            | inr positive ↦ found from.0 within from.2 positive
           ]
     ]
 
@@ -202,43 +219,44 @@ module _ (g : Graph) (urgency order : List ℕ) (frozen : List (Option ℕ)) (tr
 
   -- times with later ends have no less excess: the excess of each process is at most that of the same process in the others
   excess_grows : (s : Scenario) (t u : Times) → IsNoLater g order s t u → excess_in_run g t ≤ excess_in_run g u
-  excess_grows s t u h = greatest-le (map (excess_of g t) (numbers_below (process_count g))) (excess_in_run g u)
-      (λ v c.
-      let r = Contains-map_parts (excess_of g t) (numbers_below (process_count g)) v c in
+  excess_grows s t u later = greatest-le (map (excess_of g t) (numbers_below (process_count g))) (excess_in_run g u)
+      (λ v among.
+      let process = Contains-map_parts (excess_of g t) (numbers_below (process_count g)) v among in
       omega (
         arith,
-        r.2,
-        h.ends r.0 (numbers-Contains (process_count g) r.0 r.1),
-        greatest_above (map (excess_of g u) (numbers_below (process_count g))) (excess_of g u r.0)
-            (Contains-map (excess_of g u) (numbers_below (process_count g)) r.0 r.1),
+        process.2,
+        later.ends process.0 (numbers-Contains (process_count g) process.0 process.1),
+        greatest_above (map (excess_of g u) (numbers_below (process_count g))) (excess_of g u process.0)
+            (Contains-map (excess_of g u) (numbers_below (process_count g)) process.0 process.1),
       ))
 
   -- the excess of a process is at most that of the run
   excess_above : (t : Times) (p : ℕ) → p < process_count g → excess_of g t p ≤ excess_in_run g t
-  excess_above t p l = greatest_above (map (excess_of g t) (numbers_below (process_count g))) (excess_of g t p)
-      (Contains-map (excess_of g t) (numbers_below (process_count g)) p (Contains-numbers (process_count g) p l))
+  excess_above t p within = greatest_above (map (excess_of g t) (numbers_below (process_count g))) (excess_of g t p)
+      (Contains-map (excess_of g t) (numbers_below (process_count g)) p (Contains-numbers (process_count g) p within))
 
   -- the excess of each track is 0, or some run comes to it: it is that of some process, whose latest end is reached
   excess_reached : (i : ℕ) → i < length tracks →
       (excess_in_run g (lates i g.faults) ≡ 0) ⊎
       IsReached g order frozen (track_at tracks i) g.faults (excess_in_run g) (excess_in_run g (lates i g.faults))
-  excess_reached i l = elim (greatest_cases (map (excess_of g (lates i g.faults)) (numbers_below (process_count g)))) [
-    | inl e ↦ inl e
-    | inr c ↦
-        -- the process that has the excess, and the run that reaches its latest end
-        let r = Contains-map_parts (excess_of g (lates i g.faults)) (numbers_below (process_count g))
-        (excess_in_run g (lates i g.faults)) c in
-        let p = numbers-Contains (process_count g) r.0 r.1 in
-        let e = (of_track i l).ends r.0 p in
-        inr (record {
-          faults = e.faults;
-          lawful = e.lawful;
-          few = e.few;
-          times = e.times;
-          run = e.run;
-          is = omega (arith, r.2, e.is, excess_above e.times r.0 p);
-        })
-  ]
+  excess_reached i within = elim (greatest_cases
+      (map (excess_of g (lates i g.faults)) (numbers_below (process_count g)))) [
+        | inl e ↦ inl e
+        | inr among ↦
+            -- the process that has the excess, and the run that reaches its latest end
+            let process = Contains-map_parts (excess_of g (lates i g.faults)) (numbers_below (process_count g))
+            (excess_in_run g (lates i g.faults)) among in
+            let process_within = numbers-Contains (process_count g) process.0 process.1 in
+            let reached = (of_track i within).ends process.0 process_within in
+            inr (record {
+              faults = reached.faults;
+              lawful = reached.lawful;
+              few = reached.few;
+              times = reached.times;
+              run = reached.run;
+              is = omega (arith, process.2, reached.is, excess_above reached.times process.0 process_within);
+            })
+      ]
 
   -- the greatest excess of all scenarios is that of the tracks
   pub excess_is : IsGreatest g order frozen (excess_in_run g) (latest_excess g tracks lates)
@@ -253,14 +271,14 @@ module _ (g : Graph) (urgency order : List ℕ) (frozen : List (Option ℕ)) (tr
 
   -- the latest times have an end, or none, for each process
   latest_long : (i : ℕ) → i < length tracks → length (lates i g.faults).ends ≡ process_count g
-  latest_long i l = ap length ((are.each i l).ends g.faults (omega arith))
+  latest_long i within = ap length ((are.each i within).ends g.faults (omega arith))
       ∙ length-map-range_with_len (latest_end_by g (lates i) g.faults) 0 (process_count g)
 
   -- the finish of a run is no later than that of the latest times of its track: it is 0, or some end, which is no later
   finish_grows : (s : Scenario) (t : Times) (i : ℕ) → i < length tracks → IsRun g order frozen s t →
       IsNoLater g order s t (lates i g.faults) →
       t.finish ≤ (lates i g.faults).finish
-  finish_grows s t i l run h = elim (finish_at t.ends) [
+  finish_grows s t i within run h = elim (finish_at t.ends) [
     | inl e ↦ omega (arith, run.finish, e)
     | inr r ↦ omega (
       arith,
@@ -268,7 +286,7 @@ module _ (g : Graph) (urgency order : List ℕ) (frozen : List (Option ℕ)) (tr
       r.2,
       h.ends r.0 (omega (arith, r.1, ends_long s t run)),
       at_most_finish (lates i g.faults).ends r.0,
-      (are.each i l).finish g.faults (omega arith),
+      (are.each i within).finish g.faults (omega arith),
     )
   ]
 
@@ -276,26 +294,33 @@ module _ (g : Graph) (urgency order : List ℕ) (frozen : List (Option ℕ)) (tr
   finish_reached : (i : ℕ) → i < length tracks →
       ((lates i g.faults).finish ≡ 0) ⊎
       IsReached g order frozen (track_at tracks i) g.faults (λ t. t.finish) (lates i g.faults).finish
-  finish_reached i l =
-      let is = (are.each i l).finish g.faults (omega arith) in
+  finish_reached i within =
+      let is = (are.each i within).finish g.faults (omega arith) in
       elim (finish_at (lates i g.faults).ends) [
         | inl e ↦ inl (is ∙ e)
-        | inr r ↦
-            let e = (of_track i l).ends r.0 (omega (arith, r.1, latest_long i l)) in
+        | inr place ↦
+            let reached = (of_track i within).ends place.0 (omega (arith, place.1, latest_long i within)) in
             inr (record {
-              faults = e.faults;
-              lawful = e.lawful;
-              few = e.few;
-              times = e.times;
-              run = e.run;
-              is = omega (arith, is, r.2, e.is, e.run.finish, at_most_finish e.times.ends r.0);
+              faults = reached.faults;
+              lawful = reached.lawful;
+              few = reached.few;
+              times = reached.times;
+              run = reached.run;
+              is = omega (
+                arith,
+                is,
+                place.2,
+                reached.is,
+                reached.run.finish,
+                at_most_finish reached.times.ends place.0,
+              );
             })
       ]
 
   -- the greatest finish of all scenarios is that of the tracks
   pub finish_is : IsGreatest g order frozen (λ t. t.finish) (latest_finish g tracks lates)
   unfolding most
-  finish_is = is_greatest (λ t. t.finish) (λ s t i l run h e. finish_grows s t i l run h) finish_reached
+  finish_is = is_greatest (λ t. t.finish) (λ s t i within run h e. finish_grows s t i within run h) finish_reached
 
   -- the greatest finish and the greatest excess of the tracks are those of all scenarios
   pub greatest_are : HasGreatest g order frozen (latest_excess g tracks lates) (latest_finish g tracks lates)

@@ -39,13 +39,13 @@ module _ (g : Graph) (order : List ℕ) (topological : IsTopological g order) (w
     settled_as less more = record {
       count = settled.count;
       each = λ y h f m. settled.each y h f (less y h f m);
-      others = λ y no. settled.others y (λ h f d. no h f (more y h d));
+      others = λ y no. settled.others y (λ h fails d. no h fails (more y h d));
       low = settled.low;
     }
 
     -- given: one item x more is done
     -- `later`: all items done so far have earlier moments; `grows`, `one`, `only`: by `More` just these and x are done
-    module _ (x : ℕ) (l : x < item_count g) (later : (y : ℕ) → y < item_count g → Done y →
+    module _ (x : ℕ) (inside : x < item_count g) (later : (y : ℕ) → y < item_count g → Done y →
         moment g order y < moment g order x) (grows : (y : ℕ) → Done y → More y) (one : More x)
         (only : (y : ℕ) → More y → Done y ⊎ (y ≡ x)) where
       -- if the item is not frozen, the frozen times stay settled with it
@@ -56,7 +56,7 @@ module _ (g : Graph) (order : List ℕ) (topological : IsTopological g order) (w
 
       -- the item isn't done yet, so it has no frozen time
       pub not_yet : get_or frozen x None ≡ None
-      not_yet = settled.others x (λ h f d. let m = later x h d in absurd (omega (arith, m)))
+      not_yet = settled.others x (λ below is_one done. let after = later x below done in absurd (omega (arith, after)))
 
       -- If the item is frozen, and its frozen time is set to the greatest that it would have if it were not, the frozen times are
       -- settled with it. An item done before keeps its frozen time, as it rests on earlier moments.
@@ -68,7 +68,8 @@ module _ (g : Graph) (order : List ℕ) (topological : IsTopological g order) (w
         count = count ∙ settled.count;
         each = λ y h f done. elim (cases_eq y x) [
           -- the item itself has the time that was set; others keep theirs
-          | inl e ↦ subst (IsFrozenTime g order more) (sym e) (frozen_time_set g order topological frozen more x l
+          | inl same_item ↦ subst (IsFrozenTime g order more) (sym same_item)
+              (frozen_time_set g order topological frozen more x inside
               (λ z w m. sym (same z (λ e. omega (arith, ap (moment g order) e)))) is)
           | inr apart ↦ elim (only y done) [
             | inr e ↦ absurd (apart e)
@@ -79,18 +80,20 @@ module _ (g : Graph) (order : List ℕ) (topological : IsTopological g order) (w
         ];
         -- an item that isn't settled has no time
         others = λ y no. same y
-            (λ e. no (subst (λ z. z < item_count g) (sym e) l) (ap (is_frozen g) e ∙ is_one) (subst More (sym e) one))
-            ∙ settled.others y (λ h f done. no h f (grows y done));
+            (λ e. no (subst (λ z. z < item_count g) (sym e) inside) (ap (is_frozen g) e ∙ is_one)
+            (subst More (sym e) one))
+            ∙ settled.others y (λ h fails done. no h fails (grows y done));
         -- the time that was set is that of a run, so it is low
         low = record {
           low = λ y time w e. elim (cases_eq y x) [
-            | inl at ↦
-                let r = is.reached time (ap (λ z. get_or more z None) (sym at) ∙ e) in
-                subst (λ z. time ≤ bound 0 (moment g order z) + 32000000000) (sym at)
+            | inl same_item ↦
+                let reached = is.reached time (ap (λ z. get_or more z None) (sym same_item) ∙ e) in
+                subst (λ z. time ≤ bound 0 (moment g order z) + 32000000000) (sym same_item)
                 (omega (
                   arith,
-                  r.has,
-                  unfrozen_low 0 g order frozen r.scenario r.times within topological r.lawful settled.low r.run x l,
+                  reached.has,
+                  unfrozen_low 0 g order frozen reached.scenario reached.times within topological reached.lawful
+                      settled.low reached.run x inside,
                 ))
             | inr apart ↦ settled.low.low y time w (sym (same y apart) ∙ e)
           ];
@@ -113,21 +116,22 @@ module _ (g : Graph) (order : List ℕ) (topological : IsTopological g order) (p
 
   -- the start of p doesn't come from an earlier process
   pub own_place : IsEarlier g order (place order p) p → ⊥
-  own_place e = let is = ap (λ i. place order (producer_of_item g i)) (item_at-start g p l) in
-      absurd (omega (arith, e, is))
+  own_place earlier = let is = ap (λ i. place order (producer_of_item g i)) (item_at-start g p l) in
+      absurd (omega (arith, earlier, is))
 
   -- each item of an earlier process has an earlier moment than the start of p
   pub start_later : (y : ℕ) → y < item_count g → IsEarlier g order (place order p) y →
       moment g order y < moment g order p
-  start_later y h e =
+  start_later y within earlier =
       let own = moment_of_start g order topological p l in
       let less : moment g order y < place order p * phases g =
-      sooner (place order (producer g y)) (place order p) (phase (item_at g y)) (phases g) e (phase_below g y h) in
+      sooner (place order (producer g y)) (place order p) (phase (item_at g y)) (phases g) earlier
+      (phase_below g y within) in
       omega (arith, own, less)
 
   -- with the start of p, items of earlier processes are done
   pub start_grows : (y : ℕ) → IsEarlier g order (place order p) y → IsDone g order p 0 y
-  start_grows y e = inl e
+  start_grows y earlier = inl earlier
 
   -- the start itself is done then
   pub start_one : IsDone g order p 0 p
@@ -137,15 +141,15 @@ module _ (g : Graph) (order : List ℕ) (topological : IsTopological g order) (p
   pub start_only : (y : ℕ) → IsDone g order p 0 y → IsEarlier g order (place order p) y ⊎ (y ≡ p)
   start_only y (inl e) = inl e
   start_only y (inr (inl e)) = inr e
-  start_only y (inr (inr c)) = absurd (Contains-nil y c)
+  start_only y (inr (inr there)) = absurd (Contains-nil y there)
 
   -- ---- what it sends
 
   -- the moment of an item that a process sends, by the process's place and the item's rank
   moment_of_sent : (x : ℕ) → Contains (queue_of g p) x →
       moment g order x ≡ place order p * phases g + (rank_of_item (item_at g x) + 2)
-  moment_of_sent x c = let q = in_queue g p x c in
-      ap₂ (λ r f. place order r * phases g + f) q.by (phase_is_rank g (item_at g x) q.sent)
+  moment_of_sent x there = let own_item = in_queue g p x there in
+      ap₂ (λ r f. place order r * phases g + f) own_item.by (phase_is_rank g (item_at g x) own_item.sent)
 
   module _ (k : ℕ) (inside : k < length (queue_of g p)) where
     -- the item at place k of what the process sends
@@ -162,16 +166,16 @@ module _ (g : Graph) (order : List ℕ) (topological : IsTopological g order) (p
 
     -- what is done before it has an earlier moment: an item of an earlier process, the start of p, or an earlier item of p
     pub send_later : (y : ℕ) → y < item_count g → IsDone g order p k y → moment g order y < moment g order here
-    send_later y h (inl e) =
+    send_later y within (inl e) =
         let at = moment_of_sent here in_here in
         let less : moment g order y < place order p * phases g = sooner (place order (producer g y)) (place order p)
-        (phase (item_at g y)) (phases g) e (phase_below g y h) in
+        (phase (item_at g y)) (phases g) e (phase_below g y within) in
         omega (arith, at, less)
-    send_later y h (inr (inl e)) =
+    send_later y within (inr (inl e)) =
         let at = moment_of_sent here in_here in
         let own = ap (moment g order) e ∙ moment_of_start g order topological p l in
         omega (arith, at, own)
-    send_later y h (inr (inr c)) =
+    send_later y within (inr (inr c)) =
         let at = moment_of_sent here in_here in
         let own = moment_of_sent y (Contains-take k (queue_of g p) y c) in
         let less : rank_of_item (item_at g y) < rank_of_item (item_at g here) =
@@ -192,42 +196,43 @@ module _ (g : Graph) (order : List ℕ) (topological : IsTopological g order) (p
     pub send_only : (y : ℕ) → IsDone g order p (k + 1) y → IsDone g order p k y ⊎ (y ≡ here)
     send_only y (inl e) = inl (inl e)
     send_only y (inr (inl e)) = inl (inr (inl e))
-    send_only y (inr (inr c)) =
-        elim (take_next (queue_of g p) k y inside c) [ inl a ↦ inl (inr (inr a)) | inr e ↦ inr e ]
+    send_only y (inr (inr there)) =
+        elim (take_next (queue_of g p) k y inside there) [ inl a ↦ inl (inr (inr a)) | inr e ↦ inr e ]
 
   -- ---- the next place
 
   -- a frozen item of p is its start or one of the items that it sends, so it is among those that are done
   among : (x : ℕ) → x < item_count g → is_frozen g x ≡ true → producer g x ≡ p → ItemCases g x →
       IsDone g order p (length (queue_of g p)) x
-  among x h f by (inl c) = inr (inl (sym (ap (producer_of_item g) c.1) ∙ by))
-  among x h f by (inr (inl c)) =
+  among x within it_is_frozen by (inl c) = inr (inl (sym (ap (producer_of_item g) c.1) ∙ by))
+  among x within it_is_frozen by (inr (inl c)) =
       let sent : is_sent g x ≡ true =
-      ap (is_sent_item g) c.3 ∙ (and_parts _ _ (sym (ap (is_frozen_item g) c.3) ∙ f)).0 in
+      ap (is_sent_item g) c.3 ∙ (and_parts _ _ (sym (ap (is_frozen_item g) c.3) ∙ it_is_frozen)).0 in
       inr (inr (subst (λ xs. Contains xs x) (sym (take_all (length (queue_of g p)) (queue_of g p) (omega arith)))
-      (queue-Contains g p x h sent by)))
-  among x h f by (inr (inr c)) = absurd (true≢false (sym f ∙ ap (is_frozen_item g) c.3))
+      (queue-Contains g p x within sent by)))
+  among x within it_is_frozen by (inr (inr c)) = absurd (true≢false (sym it_is_frozen ∙ ap (is_frozen_item g) c.3))
 
   -- once p has sent all, each frozen item from a process before the next place is done: an earlier one's, or one of p
   pub next_done : (x : ℕ) → x < item_count g → is_frozen g x ≡ true → IsEarlier g order (place order p + 1) x →
       IsDone g order p (length (queue_of g p)) x
-  next_done x h f e = elim (cases_lt (place order (producer g x)) (place order p)) [
+  next_done x within it_is_frozen earlier = elim (cases_lt (place order (producer g x)) (place order p)) [
     | inl less ↦ inl less
     | inr more ↦
-        let same : place order (producer g x) ≡ place order p = omega (arith, e, more) in
+        let same : place order (producer g x) ≡ place order p = omega (arith, earlier, more) in
         let by : producer g x ≡ p = sym (get_or-place order (producer g x) 0 (Contains-order (process_count g) order
-        topological.all (producer g x) (producer_in_range g order topological x h)))
+        topological.all (producer g x) (producer_in_range g order topological x within)))
         ∙ ap (λ i. get_or order i 0) same
         ∙ get_or-place order p 0 (Contains-order (process_count g) order topological.all p l) in
-        among x h f by (item_cases g x h)
+        among x within it_is_frozen by (item_cases g x within)
   ]
 
   -- once p has sent all, each item that is done comes from a process before the next place
   pub next_earlier : (x : ℕ) → x < item_count g → IsDone g order p (length (queue_of g p)) x →
       IsEarlier g order (place order p + 1) x
-  next_earlier x h (inl e) = omega (arith, e)
-  next_earlier x h (inr (inl e)) =
+  next_earlier x within (inl e) = omega (arith, e)
+  next_earlier x within (inr (inl e)) =
       let is = ap (λ i. place order (producer_of_item g i)) (ap (item_at g) e ∙ item_at-start g p l) in
       omega (arith, is)
-  next_earlier x h (inr (inr c)) = let q = in_queue g p x (Contains-take (length (queue_of g p)) (queue_of g p) x c) in
-      omega (arith, ap (place order) q.by)
+  next_earlier x within (inr (inr sent)) = let own_item = in_queue g p x
+      (Contains-take (length (queue_of g p)) (queue_of g p) x sent) in
+      omega (arith, ap (place order) own_item.by)

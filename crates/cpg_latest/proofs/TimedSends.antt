@@ -36,35 +36,39 @@ use Rattle.cpg_latest.proofs.TimedStarts.{greatest_option, both_ways_equal}
 -- one of the first k + 1 elements is one of the first k, or that at place k
 pub take_next : (xs : List ℕ) (k y : ℕ) → k < length xs → Contains (take (k + 1) xs) y →
     Contains (take k xs) y ⊎ (y ≡ get_or xs k 0)
-take_next xs k y l c =
+take_next xs k y within there =
     let is : take (k + 1) xs ≡ take k xs ++ get_or xs k 0 ∷ [] =
-    ap (λ n. take n xs) (let e : k + 1 ≡ suc k = omega arith in e) ∙ take-suc xs k 0 l in
-    elim (Contains-append_cases (take k xs) (get_or xs k 0 ∷ []) y (subst (λ ys. Contains ys y) is c)) [
-      | inl a ↦ inl a
-      | inr b ↦
-          elim (Contains-cases (get_or xs k 0) [] y b) [ inl e ↦ inr (sym e) | inr none ↦ absurd (Contains-nil y none) ]
+    ap (λ n. take n xs) (let more : k + 1 ≡ suc k = omega arith in more) ∙ take-suc xs k 0 within in
+    elim (Contains-append_cases (take k xs) (get_or xs k 0 ∷ []) y (subst (λ ys. Contains ys y) is there)) [
+      | inl earlier ↦ inl earlier
+      | inr here ↦
+          elim (Contains-cases (get_or xs k 0) [] y here) [
+            | inl e ↦ inr (sym e)
+            | inr none ↦
+                absurd (Contains-nil y none)
+          ]
     ]
 
 -- one of the first k elements, or that at place k, is one of the first k + 1
 pub in_next : (xs : List ℕ) (k y : ℕ) → k < length xs → Contains (take k xs) y ⊎ (y ≡ get_or xs k 0) →
     Contains (take (k + 1) xs) y
-in_next xs k y l c =
+in_next xs k y within there =
     let is : take (k + 1) xs ≡ take k xs ++ get_or xs k 0 ∷ [] =
-    ap (λ n. take n xs) (let e : k + 1 ≡ suc k = omega arith in e) ∙ take-suc xs k 0 l in
-    subst (λ ys. Contains ys y) (sym is) (elim c [
-      | inl a ↦ Contains-append_left (take k xs) (get_or xs k 0 ∷ []) y a
+    ap (λ n. take n xs) (let more : k + 1 ≡ suc k = omega arith in more) ∙ take-suc xs k 0 within in
+    subst (λ ys. Contains ys y) (sym is) (elim there [
+      | inl earlier ↦ Contains-append_left (take k xs) (get_or xs k 0 ∷ []) y earlier
       | inr e ↦ subst (Contains (take k xs ++ get_or xs k 0 ∷ [])) (sym e)
           (Contains-append_right (take k xs) (get_or xs k 0 ∷ []) (get_or xs k 0) (Contains-first (get_or xs k 0) []))
     ])
 
 -- one of the first n elements is one of the list
 pub Contains-take : (n : ℕ) (xs : List ℕ) (x : ℕ) → Contains (take n xs) x → Contains xs x
-Contains-take n xs x c =
-    subst (λ ys. Contains ys x) (take-append-drop n xs) (Contains-append_left (take n xs) (drop n xs) x c)
+Contains-take n xs x there =
+    subst (λ ys. Contains ys x) (take-append-drop n xs) (Contains-append_left (take n xs) (drop n xs) x there)
 
 -- given: a process p of a topological order, and a scenario s
 module _ (g : Graph) (order : List ℕ) (topological : IsTopological g order) (s : Scenario) (p : ℕ)
-    (l : p < process_count g) where
+    (within : p < process_count g) where
   -- ---- what a node has sent before an item
 
   module _ (k : ℕ) (inside : k < length (queue_of g p)) where
@@ -79,44 +83,53 @@ module _ (g : Graph) (order : List ℕ) (topological : IsTopological g order) (s
     -- an active item queued before this one is sent for an earlier process, or is one of the first k of p
     queued_is_by : (y : ℕ) → Contains (queued_before g order here) y → item_active g s.values (item_at g y) ≡ true →
         IsSentBy g order s p k y
-    queued_is_by y c acts =
-        let f = Contains-filter_parts (λ y. is_queued_before g order y here) (numbers_below (item_count g)) y c in
-        let m : y < item_count g = numbers-Contains (item_count g) y f.0 in
-        let b = and_parts _ _ f.1 in
-        let d = and_parts _ _ b.0 in
-        let x = in_queue g p here here_sent in (
-          record { within = m; sent = d.0; home = eqb-true _ _ d.1 ∙ ap (node_of g) x.by; active = acts },
+    queued_is_by y before acts =
+        let kept = Contains-filter_parts (λ y. is_queued_before g order y here)
+        (numbers_below (item_count g)) y before in
+        let below : y < item_count g = numbers-Contains (item_count g) y kept.0 in
+        let parts = and_parts _ _ kept.1 in
+        let sent_and_home = and_parts _ _ parts.0 in
+        let own_item = in_queue g p here here_sent in (
+          record {
+            within = below;
+            sent = sent_and_home.0;
+            home = eqb-true _ _ sent_and_home.1
+                ∙ ap (node_of g) own_item.by;
+            active = acts;
+          },
           ⊎_elim
               (λ (e : comes_before order (producer g y) (producer g here) ≡ true).
               inl (let less = places_from_comes_before order (producer g y) (producer g here) e in
-              omega (arith, ap (place order) x.by)))
+              omega (arith, ap (place order) own_item.by)))
               (λ (e : ((producer g y == producer g here) && ltb (rank_of_item (item_at g y)) (rank_of_item (item_at g here))) ≡ true).
-              let w = and_parts (producer g y == producer g here) _ e in
+              let same_and_less = and_parts (producer g y == producer g here) _ e in
               inr (in_first (rank_at g) (queue_of g p) (queue_rises g p) k inside y
-              (queue-Contains g p y m d.0 (eqb-true _ _ w.0 ∙ x.by)) (ltb-true _ _ w.1)))
-              (or_cases _ _ b.1),
+              (queue-Contains g p y below sent_and_home.0 (eqb-true _ _ same_and_less.0 ∙ own_item.by))
+              (ltb-true _ _ same_and_less.1)))
+              (or_cases _ _ parts.1),
         )
 
     -- and conversely: an active item that the node sends for an earlier process, or that is one of the first k of p, is queued
     -- before this one
     by_is_queued : (y : ℕ) → IsSentBy g order s p k y → Contains (queued_before g order here) y
-    by_is_queued y h =
-        let x = in_queue g p here here_sent in
-        let same : (home g y == home g here) ≡ true = eq-eqb _ _ (h.0.home ∙ sym (ap (node_of g) x.by)) in
-        queued_from g order topological here y h.0.within
-        (and_from _ _ (and_from _ _ h.0.sent same) (elim h.1 [
+    by_is_queued y sent =
+        let own_item = in_queue g p here here_sent in
+        let same : (home g y == home g here) ≡ true = eq-eqb _ _ (sent.0.home ∙ sym (ap (node_of g) own_item.by)) in
+        queued_from g order topological here y sent.0.within
+        (and_from _ _ (and_from _ _ sent.0.sent same) (elim sent.1 [
           | inl less ↦ or_left _ _ (comes_before_from_places order (producer g y) (producer g here)
               (Contains-order (process_count g) order topological.all (producer g y)
-              (producer_in_range g order topological y h.0.within)) (omega (arith, ap (place order) x.by)))
+              (producer_in_range g order topological y sent.0.within)) (omega (arith, ap (place order) own_item.by)))
           | inr among ↦
               let inq : Contains (queue_of g p) y = Contains-take k (queue_of g p) y among in
-              or_right _ _ (and_from _ _ (eq-eqb _ _ ((in_queue g p y inq).by ∙ sym x.by))
+              or_right _ _ (and_from _ _ (eq-eqb _ _ ((in_queue g p y inq).by ∙ sym own_item.by))
               (lt-ltb _ _ (below_first (rank_at g) (queue_of g p) (queue_rises g p) k inside y among)))
         ]))
 
     -- the item at place k is not among the first k
     pub not_among : Contains (take k (queue_of g p)) here → ⊥
-    not_among c = let less = below_first (rank_at g) (queue_of g p) (queue_rises g p) k inside here c in omega arith
+    not_among there = let less = below_first (rank_at g) (queue_of g p) (queue_rises g p) k inside
+        here there in omega arith
 
     -- ---- when it is sent
 
@@ -134,42 +147,50 @@ module _ (g : Graph) (order : List ℕ) (topological : IsTopological g order) (s
 
       -- the time of the item is the greatest of its bounds and its frozen time
       item_time : time_in t here ≡ max (greatest (send_bounds g order s t here)) (frozen_in frozen here)
-      item_time = let x = in_queue g p here here_sent in
-          time_in_active g order frozen s t run here x.within acts
+      item_time = let own_item = in_queue g p here here_sent in
+          time_in_active g order frozen s t run here own_item.within acts
           ∙ greatest-cons (unfrozen_time g order s t here) (option_to_list (get_or frozen here None))
-          ∙ ap₂ max (unfrozen_sent g order frozen s t run here x.sent) (greatest_option (get_or frozen here None))
+          ∙ ap₂ max (unfrozen_sent g order frozen s t run here own_item.sent)
+          (greatest_option (get_or frozen here None))
 
       -- the slots are free by the item's time, since it waits for a round after each active item queued before it
       free_by : free ≤ time_in t here
-      free_by = let x = in_queue g p here here_sent in
+      free_by = let own_item = in_queue g p here here_sent in
           is_free.least (time_in t here)
-          (λ y h. queue_below g order frozen s t run here y x.within acts x.sent (by_is_queued y h) h.0.active)
+          (λ y h. queue_below g order frozen s t run here y own_item.within acts own_item.sent
+          (by_is_queued y h) h.0.active)
 
       -- no bound of the item is above the time found: the slot after the producer's end isn't, nor is a round after an item before
       bounds_found : greatest (send_bounds g order s t here) ≤ found
       bounds_found = send_bounds_le g order s t here found (omega (arith, at_producer))
-          (λ y c a. omega (arith, is_free.above y (queued_is_by y c a)))
+          (λ y there is_active. omega (arith, is_free.above y (queued_is_by y there is_active)))
 
       -- the time that is found is that of the times t: each is at most the other
       pub send_is : max (max (next_slot g (node_of g p) (end_in t p)) free) (frozen_in frozen here) ≡ time_in t here
-      send_is = let x = in_queue g p here here_sent in
+      send_is = let own_item = in_queue g p here here_sent in
           both_ways_equal found (time_in t here)
-          (omega
-          (arith, free_by, item_time, at_producer, producer_below g order frozen s t run here x.within acts x.sent))
+          (omega (
+            arith,
+            free_by,
+            item_time,
+            at_producer,
+            producer_below g order frozen s t run here
+                own_item.within acts own_item.sent,
+          ))
           (omega (arith, item_time, bounds_found))
 
       -- once the item is sent, the slots of the node are free a round after it
       pub free_next : IsMost (IsSentBy g order s p (k + 1)) (free_after g t) (time_in t here + round g)
-      free_next = let x = in_queue g p here here_sent in record {
+      free_next = let own_item = in_queue g p here here_sent in record {
         above = λ y h. elim h.1 [
           | inl less ↦ omega (arith, free_by, is_free.above y (h.0, inl less))
-          | inr c ↦ elim (take_next (queue_of g p) k y inside c) [
+          | inr there ↦ elim (take_next (queue_of g p) k y inside there) [
             | inl among ↦ omega (arith, free_by, is_free.above y (h.0, inr among))
             | inr e ↦ omega (arith, ap (time_in t) e)
           ]
         ];
         least = λ b h. h here (
-          record { within = x.within; sent = x.sent; home = ap (node_of g) x.by; active = acts },
+          record { within = own_item.within; sent = own_item.sent; home = ap (node_of g) own_item.by; active = acts },
           inr (in_next (queue_of g p) k here inside (inr refl)),
         );
       }
@@ -178,19 +199,19 @@ module _ (g : Graph) (order : List ℕ) (topological : IsTopological g order) (s
     pub free_same : (t : Times) (free : ℕ) → item_active g s.values (item_at g here) ≡ false →
         IsMost (IsSentBy g order s p k) (free_after g t) free →
         IsMost (IsSentBy g order s p (k + 1)) (free_after g t) free
-    free_same t free idle m = most_same (free_after g t) (IsSentBy g order s p k) (IsSentBy g order s p (k + 1)) free
+    free_same t free idle most = most_same (free_after g t) (IsSentBy g order s p k) (IsSentBy g order s p (k + 1)) free
         (λ y h. (h.0, elim h.1 [ inl less ↦ inl less | inr c ↦ inr (in_next (queue_of g p) k y inside (inl c)) ]))
         (λ y h. (
           h.0,
           elim h.1 [
             | inl less ↦ inl less
-            | inr c ↦ elim (take_next (queue_of g p) k y inside c) [
+            | inr there ↦ elim (take_next (queue_of g p) k y inside there) [
               | inl among ↦ inr among
               | inr e ↦ absurd (true≢false (sym h.0.active ∙ ap (λ z. item_active g s.values (item_at g z)) e ∙ idle))
             ]
           ],
         ))
-        m
+        most
 
   -- ---- one item more has its time
 
@@ -198,12 +219,12 @@ module _ (g : Graph) (order : List ℕ) (topological : IsTopological g order) (s
   pub nothing_sent : (t known : Times) (free : ℕ) → CanSend g order s t p known free →
       HasSent g order s t p 0 known known free
   nothing_sent t known free can = record {
-    sent = λ x c. absurd (Contains-nil x c);
+    sent = λ x there. absurd (Contains-nil x there);
     others = λ x c. refl;
     slots_free =
         most_same (free_after g t) (IsSentBefore g order s (node_of g p) (place order p)) (IsSentBy g order s p 0) free
         (λ y h. (h.0, inl h.1))
-        (λ y h. (h.0, elim h.1 [ inl less ↦ less | inr c ↦ absurd (Contains-nil y c) ]))
+        (λ y h. (h.0, elim h.1 [ inl less ↦ less | inr there ↦ absurd (Contains-nil y there) ]))
         can.slots_free;
   }
 
@@ -220,11 +241,11 @@ module _ (g : Graph) (order : List ℕ) (topological : IsTopological g order) (s
         item_active g s.values (item_at g item) ≡ false →
         HasSent g order s t p (k + 1) old known free
     sent_idle none idle =
-        let x = in_queue g p item (here_sent k inside) in
+        let own_item = in_queue g p item (here_sent k inside) in
         let no_time : get_or t.times item None ≡ None =
-        time_is g order frozen s t run item x.within ∙ cond-false _ _ _ idle in
+        time_is g order frozen s t run item own_item.within ∙ cond-false _ _ _ idle in
         record {
-          sent = λ y c. elim (take_next (queue_of g p) k y inside c) [
+          sent = λ y there. elim (take_next (queue_of g p) k y inside there) [
             | inl among ↦ has.sent y among
             | inr e ↦ subst (λ z. get_or known.times z None ≡ get_or t.times z None) (sym e)
                 (has.others item (not_among k inside) ∙ none item (here_sent k inside) ∙ sym no_time)
@@ -240,16 +261,16 @@ module _ (g : Graph) (order : List ℕ) (topological : IsTopological g order) (s
         → time ≡ max (max (next_slot g (node_of g p) (end_in t p)) free) (frozen_in frozen item) →
         HasSent g order s t p (k + 1) old new (time + round g)
     sent_active new time long is acts at =
-        let x = in_queue g p item (here_sent k inside) in
+        let own_item = in_queue g p item (here_sent k inside) in
         let right : time ≡ time_in t item = at ∙ send_is k inside frozen t run free has.slots_free acts in
         record {
           -- the item's place of the list is set, and the first k keep their times
-          sent = λ y c. elim (cases_eq y item) [
+          sent = λ y there. elim (cases_eq y item) [
             | inl e ↦ subst (λ z. get_or new.times z None ≡ get_or t.times z None) (sym e)
                 (ap (λ ts. get_or ts item None) is ∙ get_or-set_same known.times item (Some time) None long
-                ∙ ap Some right ∙ sym (has_time g order frozen s t run item x.within acts))
+                ∙ ap Some right ∙ sym (has_time g order frozen s t run item own_item.within acts))
             | inr other ↦ ap (λ ts. get_or ts y None) is ∙ get_or-set_other known.times item y (Some time) None other
-                ∙ elim (take_next (queue_of g p) k y inside c) [
+                ∙ elim (take_next (queue_of g p) k y inside there) [
                   | inl among ↦ has.sent y among
                   | inr e ↦ absurd (other e)
                 ]

@@ -26,27 +26,28 @@ cleared g o = map (λ c. get_or o c false && active g o (process_of g c)) (numbe
 
 -- a test together with one that passes is the test
 and_on : (a b : Bool) → b ≡ true → a ≡ (a && b)
-and_on true b e = sym e
-and_on false b e = refl
+and_on true b holds = sym holds
+and_on false b holds = refl
 
 -- a test together with one that fails fails
 and_off : (a b : Bool) → b ≡ false → (a && b) ≡ false
-and_off true b e = e
-and_off false b e = refl
+and_off true b fails = fails
+and_off false b fails = refl
 
 module _ (g : Graph) (urgency : List ℕ) (urgent : IsUrgencyOrder g urgency) (lawful : IsTopological g urgency)
     (s : Scenario) where
   -- a cleared value is the old one, if the process of the condition is active, and else false
   at_condition : (c : ℕ) → c < condition_count g →
       get_or (cleared g s.values) c false ≡ (get_or s.values c false && active g s.values (process_of g c))
-  at_condition c l = get_or-map-below (λ c. get_or s.values c false && active g s.values (process_of g c))
-      (condition_count g) c false l
+  at_condition c within = get_or-map-below (λ c. get_or s.values c false && active g s.values (process_of g c))
+      (condition_count g) c false within
 
   -- the scenario and the one with cleared values agree on what is active in the first
   alike : AreActiveAlike g s (with_faults (cleared g s.values) s.faults)
   alike = record {
     values =
-        λ c l acts. and_on (get_or s.values c false) (active g s.values (process_of g c)) acts ∙ sym (at_condition c l);
+        λ c within acts. and_on (get_or s.values c false) (active g s.values (process_of g c)) acts
+        ∙ sym (at_condition c within);
     faults = λ p l acts. refl;
   }
 
@@ -58,12 +59,12 @@ module _ (g : Graph) (urgency : List ℕ) (urgent : IsUrgencyOrder g urgency) (l
   -- in the cleared outcome a condition is false or its process is active: by whether the process is active in s
   passes : (c : ℕ) → c < condition_count g →
       (not (get_or (cleared g s.values) c false) || active g (cleared g s.values) (process_of g c)) ≡ true
-  passes c l = elim (cases_Bool (active g s.values (process_of g c))) [
+  passes c within = elim (cases_Bool (active g s.values (process_of g c))) [
     | inl acts ↦ or_right (not (get_or (cleared g s.values) c false)) (active g (cleared g s.values) (process_of g c))
         (sym (active_is_same g urgency urgent lawful s (with_faults (cleared g s.values) s.faults) alike
-        (process_of g c) (process_of_below g c l)) ∙ acts)
+        (process_of g c) (process_of_below g c within)) ∙ acts)
     | inr idle ↦ or_left (not (get_or (cleared g s.values) c false)) (active g (cleared g s.values) (process_of g c))
-        (ap not (at_condition c l ∙ and_off (get_or s.values c false) (active g s.values (process_of g c)) idle))
+        (ap not (at_condition c within ∙ and_off (get_or s.values c false) (active g s.values (process_of g c)) idle))
   ]
 
   -- the cleared values are a track, as each of them is false or its process is active
@@ -71,7 +72,7 @@ module _ (g : Graph) (urgency : List ℕ) (urgent : IsUrgencyOrder g urgency) (l
   cleared_is_track =
       all_from (λ c. not (get_or (cleared g s.values) c false) || active g (cleared g s.values) (process_of g c))
       (numbers_below (condition_count g))
-      (λ c d. passes c (numbers-Contains (condition_count g) c d))
+      (λ c there. passes c (numbers-Contains (condition_count g) c there))
 
   -- the track at a place has the runs of the scenario, and what they rest on
   pub record HasTrack (tracks : List (List Bool)) : Type 0 where
@@ -91,27 +92,28 @@ module _ (g : Graph) (urgency : List ℕ) (urgent : IsUrgencyOrder g urgency) (l
   -- the cleared values are the track at the place i, if they are the outcome there
   of_outcome : (tracks : List (List Bool)) (i : ℕ) → i < length tracks → cleared g s.values ≡ track_at tracks i →
       HasTrack tracks
-  of_outcome tracks i l is = record {
+  of_outcome tracks i within is = record {
     place = i;
-    there = l;
+    there = within;
     scenario = λ law. subst (λ o. IsScenario g (with_faults o s.faults)) is
         (record { values = long; faults = law.faults; budget = law.budget });
     run = λ order frozen t topological run. subst (λ o. IsRun g order frozen (with_faults o s.faults) t) is
         (run_of_alike g urgency urgent lawful s
         (with_faults (cleared g s.values) s.faults) alike order topological frozen t run);
-    active = λ x k. subst (λ o. item_active g s.values (item_at g x) ≡ item_active g o (item_at g x)) is
-        (item_is_same g urgency urgent lawful s (with_faults (cleared g s.values) s.faults) alike x (item_cases g x k));
-    unfrozen = λ order t x topological k.
+    active = λ x inside. subst (λ o. item_active g s.values (item_at g x) ≡ item_active g o (item_at g x)) is
+        (item_is_same g urgency urgent lawful s (with_faults (cleared g s.values) s.faults) alike x
+        (item_cases g x inside));
+    unfrozen = λ order t x topological inside.
         subst (λ o. unfrozen_time g order s t x ≡ unfrozen_time g order (with_faults o []) t x) is
         (ap greatest (bounds_same g urgency urgent lawful s
-        (with_faults (cleared g s.values) s.faults) alike order topological [] t x (item_cases g x k)));
+        (with_faults (cleared g s.values) s.faults) alike order topological [] t x (item_cases g x inside)));
   }
 
   -- each scenario has a track with its runs, as the cleared values are a track and the list has all of them
   pub has_track : (tracks : List (List Bool)) → AreTracks g tracks → HasTrack tracks
   has_track tracks all =
-      let c =
+      let place =
       Contains-permutation (filter (is_track g) (outcomes (condition_count g))) tracks (cleared g s.values) all.all
       (Contains-filter (is_track g) (outcomes (condition_count g)) (cleared g s.values) cleared_is_track
       (Contains-outcomes (condition_count g) (cleared g s.values) long)) in
-      of_outcome tracks c.0 c.1 (sym (get_or_default tracks c.0 [] (cleared g s.values) c.1 ∙ c.2))
+      of_outcome tracks place.0 place.1 (sym (get_or_default tracks place.0 [] (cleared g s.values) place.1 ∙ place.2))

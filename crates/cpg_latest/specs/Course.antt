@@ -86,6 +86,7 @@ pub record IsSending (g : Graph) (order : List ℕ) (Done : ℕ → Type 0) (fro
 
 -- a lane: the courses of a track, one for each number of faults from none to all, each with the fact P
 pub record IsLane (g : Graph) (P : ℕ → ProgressState → Type 0) (courses : List ProgressState) : Type 0 where
+  -- there is a course for each number of faults, from none to all
   pub count : length courses ≡ g.faults + 1
   -- the n-th course is that with n faults; the default d is never used
   pub each : (n : ℕ) (d : ProgressState) → n < g.faults + 1 → P n (get_or courses n d)
@@ -93,15 +94,18 @@ pub record IsLane (g : Graph) (P : ℕ → ProgressState → Type 0) (courses : 
 -- one lane for each track, in their order, each course with the fact P of its outcome and its number of faults
 pub record AreLanes (g : Graph) (P : List Bool → ℕ → ProgressState → Type 0) (tracks : List (List Bool))
     (lanes : List (List ProgressState)) : Type 0 where
+  -- there is a lane for each track
   pub count : length lanes ≡ length tracks
   -- the i-th lane is that of the i-th track; the default d is never used
   pub each : (i : ℕ) (d : List ProgressState) → i < length tracks → IsLane g (P (track_at tracks i)) (get_or lanes i d)
 
 -- the first m elements of a list have the fact New, and the others still have Old: a loop over it has come to m
 pub record AreHalf {X : Type 0} (Old New : ℕ → X → Type 0) (m count : ℕ) (xs : List X) : Type 0 where
+  -- there are `count` elements
   pub count_is : length xs ≡ count
-  -- d is the default of `get_or`, which isn't used, as j is below the length
+  -- the first m have New; the default d of `get_or` isn't used, as j is below the length
   pub done : (j : ℕ) (d : X) → j < m → j < count → New j (get_or xs j d)
+  -- the others have Old
   pub left : (j : ℕ) (d : X) → m ≤ j → j < count → Old j (get_or xs j d)
 
 -- ---- what a track says of a process
@@ -161,6 +165,7 @@ end_after g p n start last = if n == 0 then start + duration g p 0 else max (sta
 
 -- each frozen item that is done has its frozen time, and no other item has one
 pub record AreSettledOf (g : Graph) (order : List ℕ) (Done : ℕ → Type 0) (frozen : List (Option ℕ)) : Type 0 where
+  -- there is a place for each item of the graph
   pub count : length frozen ≡ item_count g
   -- the frozen time of each frozen item that is done
   pub each : (x : ℕ) → x < item_count g → is_frozen g x ≡ true → Done x → IsFrozenTime g order frozen x

@@ -102,7 +102,9 @@ pub record AreSending (setting : Setting) (tracks : List (List Bool)) (p k : ℕ
 
 -- from `frozen_old` to `frozen_new` no frozen time but that of the item x is changed
 pub record IsSettledBy (x : ℕ) (frozen_old frozen_new : List (Option ℕ)) : Type 0 where
+  -- any other item has the frozen time that it had, or none as before
   pub others : (y : ℕ) → (y ≡ x → ⊥) → get_or frozen_new y None ≡ get_or frozen_old y None
+  -- the list is as long as before
   pub count : length frozen_new ≡ length frozen_old
 
 -- the greatest end in a course, or 0 if there is none

@@ -32,9 +32,11 @@ pub record IsReached (g : Graph) (order : List ℕ) (frozen : List (Option ℕ))
     (of : Times → ℕ) (v : ℕ) : Type 0 where
   -- the fault counts of the run's scenario
   pub faults : List ℕ
+  -- with them the outcome makes a scenario of the graph
   pub lawful : IsScenario g (with_faults values faults)
   -- no more than n faults in all
   pub few : sum faults ≤ n
+  -- the times of a run of this scenario
   pub times : Times
   pub run : IsRun g order frozen (with_faults values faults) times
   -- the number is at least v there
@@ -80,6 +82,7 @@ pub record IsGreatest (g : Graph) (order : List ℕ) (frozen : List (Option ℕ)
 
 -- these are the greatest excess and the greatest finish of all runs under an order and these frozen times
 pub record HasGreatest (g : Graph) (order : List ℕ) (frozen : List (Option ℕ)) (excess worst : ℕ) : Type 0 where
+  -- no run has a greater excess, and some run has this one; so it is for the finish
   pub is_excess : IsGreatest g order frozen (excess_in_run g) excess
   pub is_worst : IsGreatest g order frozen (λ t. t.finish) worst
 
@@ -94,7 +97,9 @@ LatestAreGreatest = (g : Graph) (urgency order : List ℕ) (frozen : List (Optio
 
 -- these are the greatest excess and the greatest finish of all runs under an order, with its frozen times
 pub record HasFigures (g : Graph) (order : List ℕ) (excess worst : ℕ) : Type 0 where
+  -- the frozen times of the order
   pub frozen : List (Option ℕ)
-  -- the frozen times of the graph under the order
+  -- they are those of the graph
   pub times : AreFrozenTimes g order frozen
+  -- with them, no excess and no finish of a run is greater than these, which some runs have
   pub greatest : HasGreatest g order frozen excess worst

@@ -40,12 +40,16 @@ pub record TellsSend (g : Graph) (values : List Bool) (p : ℕ) (courses : List 
 
 -- each lane has what `Lane::start` requires
 pub record TellStarts (g : Graph) (tracks : List (List Bool)) (lanes : List (List ProgressState)) : Type 0 where
+  -- there is a lane for each track
   pub count : length lanes ≡ length tracks
+  -- the lane of each track has it; the default d is never used
   pub each : (i : ℕ) (d : List ProgressState) → i < length tracks → TellsStart g (get_or lanes i d)
 
 -- each lane has what `Lane::send_time` requires
 pub record TellSends (g : Graph) (tracks : List (List Bool)) (p : ℕ) (lanes : List (List ProgressState)) : Type 0 where
+  -- there is a lane for each track
   pub count : length lanes ≡ length tracks
+  -- the lane of each track has it; the default d is never used
   pub each : (i : ℕ) (d : List ProgressState) → i < length tracks → TellsSend g (track_at tracks i) p (get_or lanes i d)
 
 -- `latest` is the latest start of p over the first `count` tracks, with all the faults, as if p were not frozen; None if p
@@ -56,7 +60,9 @@ IsLatestStart g tracks p lanes count latest = IsLatestOver count (λ i. active g
 
 -- the process p and its item x are active
 pub record AreSent (g : Graph) (values : List Bool) (p x : ℕ) : Type 0 where
+  -- the process is active
   pub acts : active g values p ≡ true
+  -- its item is active
   pub sent : item_active g values (item_at g x) ≡ true
 
 -- `latest` is the latest time of the item x of p over the first `count` tracks, with all the faults, as if x were not

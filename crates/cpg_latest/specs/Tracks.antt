@@ -46,6 +46,7 @@ pub record IsLatestFrozen (g : Graph) (order : List ℕ) (tracks : List (List Bo
 -- earlier items alone, so both are found along the order together. `lates i n` are the latest times of track i with n faults.
 pub record AreLatestFrozen (g : Graph) (order : List ℕ) (tracks : List (List Bool)) (lates : ℕ → ℕ → Times)
     (frozen : List (Option ℕ)) : Type 0 where
+  -- there is a place for each item of the graph
   pub count : length frozen ≡ item_count g
   -- a frozen item has the latest of its times over the tracks in which it is active
   pub each : (x : ℕ) → x < item_count g → is_frozen g x ≡ true →

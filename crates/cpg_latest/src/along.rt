@@ -8,27 +8,13 @@ ghost use Rattle.cpg_latest.specs.Course.{AreAsked, AreLanes, AreSettledOf, Have
 ghost use Rattle.cpg_latest.specs.Lanes.{AreLanesBefore, AreSending, CanBegin, HasSentTo, IsSettledBy, queued};
 ghost use Rattle.cpg_latest.specs.Over.{IsLatestSend, IsLatestStart, TellSends, TellStarts};
 ghost use Rattle.cpg_run.specs.Known.{AreEarly};
-ghost use Rattle.cpg_run.specs.Latest.{later};
 ghost use Rattle.cpg_run.specs.Setting.{IsSetting};
 
 use crate::asking::{Asked, ask_each};
 use crate::lanes::Lane;
 use cpg_base::{OutOfMemory, Scenario};
-use cpg_run::{FrozenTimes, Setting};
+use cpg_run::{FrozenTimes, Setting, later};
 use std::alloc::Global;
-
-/// Returns the later of two times, the one that there is if there is only one, and `None` if there is none.
-fn later(one: Option<u64>, other: Option<u64>) -> Option<u64>
-    ensures { result ≡ later one other }
-{
-    let Some(time) = one else {
-        return other;
-    };
-    match other {
-        Some(other_time) => Some(time.max(other_time)),
-        None => Some(time),
-    }
-}
 
 /// Sets the frozen time of an item to `latest`, its latest time. With `None` it gets none.
 fn settle(frozen: &mut FrozenTimes, item: u32, latest: Option<u64>)

@@ -18,22 +18,23 @@ use Rattle.cpg_reader.specs.Rows.{flag_or, read_array}
 use Rattle.cpg_reader.specs.Shape.{RawGraph, read_node, read_slot, read_process, read_edge, read_rows, read_raw}
 use Rattle.cpg_laws.specs.GraphFiles.{top_of, elements}
 
--- a step that gives x, if it gives anything
+-- a step `r` that gives `x`, if it gives anything
 record Gives {T : Type 0} (r : Reading T) (x : T) : Type 0 where
   is : (y : T) → r ≡ Ok y → y ≡ x
 
 -- if step `r` gives `x`, and the step after it, on `x`, gives `z`, both one after the other give `z`
 bind_gives : {T U : Type 0} (r : Reading T) (next : T → Reading U) (x : T) (z : U) → Gives r x → Gives (next x) z →
     Gives (r >>= next) z
-bind_gives (Ok w) next x z h k = record { is = λ y e. k.is y (subst (λ v. next v ≡ Ok y) (h.is w refl) e) }
-bind_gives (Err fault) next x z h k = record { is = λ y e. cc }
+bind_gives (Ok w) next x z gives next_gives =
+    record { is = λ y is_read. next_gives.is y (subst (λ v. next v ≡ Ok y) (gives.is w refl) is_read) }
+bind_gives (Err fault) next x z gives next_gives = record { is = λ y e. cc }
 
 -- a check `r` before a step doesn't change what the step gives, `z`
 seq_gives : {T U : Type 0} (r : Reading T) (next : Reading U) (z : U) → Gives next z → Gives (r >> next) z
-seq_gives (Ok w) next z k = k
-seq_gives (Err fault) next z k = record { is = λ y e. cc }
+seq_gives (Ok w) next z gives = gives
+seq_gives (Err fault) next z gives = record { is = λ y e. cc }
 
--- a reading that succeeds with x gives x
+-- a reading that succeeds with `x` gives `x`
 pure_gives : {T : Type 0} (x : T) → Gives (pure x) x
 pure_gives x = record { is = λ y e. cc }
 
@@ -62,6 +63,7 @@ name_in ms key = unwrap_or (value_in as_name ms key) []
 abbrev pub integer_in : Members → Key → ℤ → ℤ
 integer_in ms key absent = unwrap_or (value_in as_integer ms key) absent
 
+-- given what a value is read as, a row of a document, and a key
 module _ {T : Type 0} (as_type : Data → Option T) (row : DocumentRow) (key : Key) where
   -- an optional value is what stands there, if anything does
   optional_by : (o : Option Data) → Gives (optional_in row key as_type o) (option_and_then as_type o)
@@ -101,7 +103,7 @@ module _ {T : Type 0} (as_type : Data → Option T) (row : DocumentRow) (key : K
 abbrev pub node_in : Members → List ℕ
 node_in ms = name_in ms Name
 
--- a number that is needed counts, if it is missing, as one in its range
+-- the slot that its table says; a missing number counts as 1, which is in its range
 abbrev pub slot_in : Members → RawSlot
 slot_in ms =
     record { node = name_in ms Node; length = integer_in ms Length (pos 1); bytes = integer_in ms Bytes (pos 1) }
@@ -235,4 +237,4 @@ graph_gives ms =
 
 -- the graph `g` that is read of a document `ms` is the one in it
 pub graph_is : (ms : Members) (g : RawGraph) → read_raw ms ≡ Ok g → g ≡ graph_in ms
-graph_is ms g e = (graph_gives ms).is g e
+graph_is ms g is_read = (graph_gives ms).is g is_read

@@ -43,16 +43,16 @@ is_key fields text = list_any (λ key. bytes_eq (text_of key) text) (keys_of fie
 -- the text of a field's key is one of the keys
 key_is : (fields : List Field) (text : List ℕ) (f : Field) → Contains fields f → text_of f.key ≡ text →
     is_key fields text ≡ true
-key_is fields text f c same = list_any_true (λ key. bytes_eq (text_of key) text) (keys_of fields) f.key
-    (Contains-map (λ f. f.key) fields f c) ((bytes_eq-Decides (text_of f.key) text).1 same)
+key_is fields text f within same = list_any_true (λ key. bytes_eq (text_of key) text) (keys_of fields) f.key
+    (Contains-map (λ f. f.key) fields f within) ((bytes_eq-Decides (text_of f.key) text).1 same)
 
 -- a text that is one of the keys is the text of a field's key
 is_some_key : (fields : List Field) (text : List ℕ) → is_key fields text ≡ true →
     (f : Field) × Contains fields f × (text_of f.key ≡ text)
-is_some_key fields text e =
-    let (key, c, same) = list_any_parts (λ key. bytes_eq (text_of key) text) (keys_of fields) e in
-    let (f, d, is) = Contains-map_parts (λ f. f.key) fields key c in
-    (f, d, ap text_of is ∙ (bytes_eq-Decides (text_of key) text).0 same)
+is_some_key fields text passes =
+    let (key, key_within, same) = list_any_parts (λ key. bytes_eq (text_of key) text) (keys_of fields) passes in
+    let (f, field_within, is) = Contains-map_parts (λ f. f.key) fields key key_within in
+    (f, field_within, ap text_of is ∙ (bytes_eq-Decides (text_of key) text).0 same)
 
 -- what stands at a key of a table that has the member of this key in front, besides `ms`, is its value `d`
 at_own_key : (text : List ℕ) (d : Data) (ms : Members) → get_member text (member text d ms) ≡ Some d
@@ -60,22 +60,23 @@ at_own_key text d ms =
     ap (λ o. match_ordering o (get_member text ms) (Some d) (get_member text ms)) (tied_itself nat_list_cmp_total text)
 
 -- if `d` stands at key `text`, something (`z`) stands there still when another member is put in front
-still_there : (text : List ℕ) (d : Data) (other : List ℕ) (e : Data) (ms : Members) → get_member text ms ≡ Some d →
-    (z : Data) × (get_member text (member other e ms) ≡ Some z)
-still_there text d other e ms is = by (slice_cmp nat_cmp text other)
+still_there : (text : List ℕ) (d : Data) (other : List ℕ) (front : Data) (ms : Members) → get_member text ms ≡ Some d →
+    (z : Data) × (get_member text (member other front ms) ≡ Some z)
+still_there text d other front ms is = by (slice_cmp nat_cmp text other)
   where
     -- by how the key compares with that of the member in front
-    by : (o : Ordering) → (z : Data) × (match_ordering o (get_member text ms) (Some e) (get_member text ms) ≡ Some z)
+    by : (o : Ordering) → (z : Data)
+        × (match_ordering o (get_member text ms) (Some front) (get_member text ms) ≡ Some z)
     by Less = (d, is)
-    by Equal = (e, refl)
+    by Equal = (front, refl)
     by Greater = (d, is)
 
 -- A table whose keys aren't all listed has another key.
 -- By induction on the table: the first key isn't a field's, or a later one isn't.
 unlisted : (fields : List Field) (members : Members) → are_listed (keys_of fields) members ≡ false →
     HasOtherKey members fields
-unlisted fields no_members e = absurd (true≢false e)
-unlisted fields (member text d ms) e = by (is_key fields text) refl e (unlisted fields ms)
+unlisted fields no_members not_listed = absurd (true≢false not_listed)
+unlisted fields (member text d ms) not_listed = by (is_key fields text) refl not_listed (unlisted fields ms)
   where
     -- by whether the first key is that of a field
     by : (b : Bool) → is_key fields text ≡ b → (b && are_listed (keys_of fields) ms) ≡ false →
@@ -86,35 +87,36 @@ unlisted fields (member text d ms) e = by (is_key fields text) refl e (unlisted 
         let (y, still) = still_there other z text d ms there in
         (other, y, still, apart)
     by false is rest more =
-        (text, d, at_own_key text d ms, λ f c same. true≢false (sym (key_is fields text f c same) ∙ is))
+        (text, d, at_own_key text d ms, λ f within same. true≢false (sym (key_is fields text f within same) ∙ is))
 
 -- texts that compare as equal are equal
 same_text : (text other : List ℕ) → slice_cmp nat_cmp text other ≡ Equal → text ≡ other
-same_text text other e = (bytes_eq-Decides text other).0 (sym (is_eq-slice_cmp text other) ∙ ap is_eq e)
+same_text text other equal = (bytes_eq-Decides text other).0 (sym (is_eq-slice_cmp text other) ∙ ap is_eq equal)
 
 -- If all keys of a table are listed, each of its keys is a field's.
 -- By induction on the table: the text is the first key, or a later one.
 listed : (fields : List Field) (text : List ℕ) (d : Data) (members : Members) →
     are_listed (keys_of fields) members ≡ true → get_member text members ≡ Some d →
     is_key fields text ≡ true
-listed fields text d no_members e is = cc
-listed fields text d (member other z ms) e is =
-    let (here, rest) = and_parts (is_key fields other) (are_listed (keys_of fields) ms) e in
+listed fields text d no_members all_listed is = cc
+listed fields text d (member other z ms) all_listed is =
+    let (here, rest) = and_parts (is_key fields other) (are_listed (keys_of fields) ms) all_listed in
     by (slice_cmp nat_cmp text other) refl here is (listed fields text d ms rest)
   where
     -- by how the key compares with the first one of the table
     by : (o : Ordering) → slice_cmp nat_cmp text other ≡ o → is_key fields other ≡ true →
         match_ordering o (get_member text ms) (Some z) (get_member text ms) ≡ Some d →
         (get_member text ms ≡ Some d → is_key fields text ≡ true) → is_key fields text ≡ true
-    by Less o here is more = more is
-    by Equal o here is more = subst (λ t. is_key fields t ≡ true) (sym (same_text text other o)) here
-    by Greater o here is more = more is
+    by Less compared here is more = more is
+    by Equal compared here is more = subst (λ t. is_key fields t ≡ true) (sym (same_text text other compared)) here
+    by Greater compared here is more = more is
 
 -- a table with another key has keys that aren't all listed
 other_key : (fields : List Field) (members : Members) → HasOtherKey members fields →
     are_listed (keys_of fields) members ≡ false
 other_key fields members (text, d, is, apart) = false_from_ne_true (are_listed (keys_of fields) members)
-    (λ e. let (f, c, same) = is_some_key fields text (listed fields text d members e is) in apart f c same)
+    (λ all_listed. let (f, within, same) = is_some_key fields text (listed fields text d members all_listed is) in
+    apart f within same)
 
 -- ---- one table
 
@@ -130,43 +132,51 @@ module _ (ms : Members) (row : DocumentRow) (at : table_at ms row.table row.inde
       Each (IsBad ms) (bad_fields row (keys_of (fields_of row.table)) fields)
   bad_keys [] those =
       each_unless (IsBad ms) (are_listed (keys_of (fields_of row.table)) row.members) (BadField (place_in row Unknown))
-      (λ e. (place_in row Unknown, refl, (row.members, at, inr (refl, unlisted (fields_of row.table) row.members e))))
+      (λ not_listed. (
+        place_in row Unknown,
+        refl,
+        (row.members, at, inr (refl, unlisted (fields_of row.table) row.members not_listed)),
+      ))
   bad_keys (f ∷ fields) those =
       each_joined (IsBad ms) (unless (is_good_value f (value_at row f.key)) (BadField (place_in row f.key)))
       (bad_fields row (keys_of (fields_of row.table)) fields)
       (each_unless (IsBad ms) (is_good_value f (value_at row f.key)) (BadField (place_in row f.key))
-      (λ e. (place_in row f.key, refl, (row.members, at, inl (f, those f (Contains-first f fields), refl, e)))))
-      (bad_keys fields (λ g c. those g (Contains-rest f fields g c)))
+      (λ not_good. (
+        place_in row f.key,
+        refl,
+        (row.members, at, inl (f, those f (Contains-first f fields), refl, not_good)),
+      )))
+      (bad_keys fields (λ g within. those g (Contains-rest f fields g within)))
 
   -- each bad field found in a row is one of the document
   row_is_bad : Each (IsBad ms) (bad_in (fields_of row.table) row)
-  row_is_bad = bad_keys (fields_of row.table) (λ f c. c)
+  row_is_bad = bad_keys (fields_of row.table) (λ f within. within)
 
 -- given a row, and the keys that are listed for it
 module _ (row : DocumentRow) (keys : List Key) where
   -- a bad value at a key of the fields is found
   value_there : (fields : List Field) (f : Field) → Contains fields f → is_good_value f (value_at row f.key) ≡ false →
       Contains (bad_fields row keys fields) (BadField (place_in row f.key))
-  value_there [] f c e = absurd (Contains-nil f c)
-  value_there (g ∷ fields) f c e = elim (Contains-cases g fields f c) [
+  value_there [] f within not_good = absurd (Contains-nil f within)
+  value_there (g ∷ fields) f within not_good = elim (Contains-cases g fields f within) [
     | inl same ↦ Contains-append_left (unless (is_good_value g (value_at row g.key)) (BadField (place_in row g.key)))
         (bad_fields row keys fields) (BadField (place_in row f.key))
         (subst (λ z. Contains (unless (is_good_value z (value_at row z.key)) (BadField (place_in row z.key)))
         (BadField (place_in row f.key))) (sym same)
-        (unless_contains (is_good_value f (value_at row f.key)) (BadField (place_in row f.key)) e))
+        (unless_contains (is_good_value f (value_at row f.key)) (BadField (place_in row f.key)) not_good))
     | inr rest ↦ Contains-append_right (unless (is_good_value g (value_at row g.key)) (BadField (place_in row g.key)))
         (bad_fields row keys fields) (BadField (place_in row f.key))
-        (value_there fields f rest e)
+        (value_there fields f rest not_good)
   ]
 
   -- if a key isn't listed, the row has the fault of an unknown key
   key_there : (fields : List Field) → are_listed keys row.members ≡ false →
       Contains (bad_fields row keys fields) (BadField (place_in row Unknown))
-  key_there [] e = unless_contains (are_listed keys row.members) (BadField (place_in row Unknown)) e
-  key_there (g ∷ fields) e =
+  key_there [] not_listed = unless_contains (are_listed keys row.members) (BadField (place_in row Unknown)) not_listed
+  key_there (g ∷ fields) not_listed =
       Contains-append_right (unless (is_good_value g (value_at row g.key)) (BadField (place_in row g.key)))
       (bad_fields row keys fields) (BadField (place_in row Unknown))
-      (key_there fields e)
+      (key_there fields not_listed)
 
 -- ---- the document
 
@@ -180,8 +190,8 @@ elements_are_bad : (ms : Members) (table : Table) (members : List Members) →
     Each (IsBad ms) (bad_elements table (fields_of table) members)
 elements_are_bad ms table members are =
     each_of_each (IsBad ms) (λ i x. slice_get members i ≡ Some x) (λ i x. bad_in (fields_of table) (row_of table i x))
-    (λ i x e. row_is_bad ms (row_of table i x) (are i ∙ e)) 0 members
-    (stand_all (λ i x. slice_get members i ≡ Some x) members (λ k x e. e))
+    (λ i x here. row_is_bad ms (row_of table i x) (are i ∙ here)) 0 members
+    (stand_all (λ i x. slice_get members i ≡ Some x) members (λ k x here. here))
 
 -- each fault in the list of field faults is a bad field of the document
 pub fields_are_bad : (ms : Members) → Each (IsBad ms) (field_faults ms)
@@ -203,37 +213,39 @@ module _ (ms : Members) (fault : ReadFault) where
   row_there : (table : Table) (i : ℕ) (row : Members) → table_at ms table i ≡ Some row →
       Contains (bad_in (fields_of table) (row_of table i row)) fault →
       Contains (field_faults ms) fault
-  row_there tables.Top zero row at c = Contains-append_left (bad_in top_fields (top_of ms)) _ fault
-      (subst (λ z. Contains (bad_in top_fields (top_of z)) fault) (let same : row ≡ ms = cc in same) c)
-  row_there tables.Top (suc i) row at c = cc
-  row_there tables.Node i row at c = Contains-append_right (bad_in top_fields (top_of ms)) _ fault
+  row_there tables.Top zero row at within = Contains-append_left (bad_in top_fields (top_of ms)) _ fault
+      (subst (λ z. Contains (bad_in top_fields (top_of z)) fault) (let same : row ≡ ms = cc in same) within)
+  row_there tables.Top (suc i) row at within = cc
+  row_there tables.Node i row at within = Contains-append_right (bad_in top_fields (top_of ms)) _ fault
       (Contains-append_left (part tables.Node Node node_fields) _ fault
-      (of_each_contains (λ i x. bad_in node_fields (row_of tables.Node i x)) fault i (elements ms Node) row at c))
-  row_there tables.Slot i row at c = Contains-append_right (bad_in top_fields (top_of ms)) _ fault
+      (of_each_contains (λ i x. bad_in node_fields (row_of tables.Node i x)) fault i (elements ms Node) row at within))
+  row_there tables.Slot i row at within = Contains-append_right (bad_in top_fields (top_of ms)) _ fault
       (Contains-append_right (part tables.Node Node node_fields) _ fault
       (Contains-append_left (part tables.Slot Slot slot_fields) _ fault
-      (of_each_contains (λ i x. bad_in slot_fields (row_of tables.Slot i x)) fault i (elements ms Slot) row at c)))
-  row_there tables.Process i row at c = Contains-append_right (bad_in top_fields (top_of ms)) _ fault
+      (of_each_contains (λ i x. bad_in slot_fields (row_of tables.Slot i x)) fault i (elements ms Slot) row at within)))
+  row_there tables.Process i row at within = Contains-append_right (bad_in top_fields (top_of ms)) _ fault
       (Contains-append_right (part tables.Node Node node_fields) _ fault
       (Contains-append_right (part tables.Slot Slot slot_fields) _ fault
       (Contains-append_left (part tables.Process Process process_fields) _ fault
       (of_each_contains (λ i x. bad_in process_fields (row_of tables.Process i x)) fault i
-      (elements ms Process) row at c))))
-  row_there tables.Edge i row at c = Contains-append_right (bad_in top_fields (top_of ms)) _ fault
+      (elements ms Process) row at within))))
+  row_there tables.Edge i row at within = Contains-append_right (bad_in top_fields (top_of ms)) _ fault
       (Contains-append_right (part tables.Node Node node_fields) _ fault
       (Contains-append_right (part tables.Slot Slot slot_fields) _ fault
       (Contains-append_right (part tables.Process Process process_fields) _ fault
-      (of_each_contains (λ i x. bad_in edge_fields (row_of tables.Edge i x)) fault i (elements ms Edge) row at c))))
+      (of_each_contains (λ i x. bad_in edge_fields (row_of tables.Edge i x)) fault i
+      (elements ms Edge) row at within))))
 
 -- Each bad field of the document is in the list of field faults.
 -- The bad value stands among the faults of its row, or the unknown key does, and the row's faults are in the list.
 pub bad_field_there : (ms : Members) (place : Place) → IsBadField ms place → Contains (field_faults ms) (BadField place)
-bad_field_there ms place (members, at, inl (f, c, same, e)) =
+bad_field_there ms place (members, at, inl (f, within, same, not_good)) =
     row_there ms (BadField place) place.table place.index members at
     (subst (λ key. Contains (bad_in (fields_of place.table) (row_of place.table place.index members))
     (BadField (record { table = place.table; index = place.index; key = key }))) same
-    (value_there (row_of place.table place.index members) (keys_of (fields_of place.table)) (fields_of place.table) f c
-    (ap (λ key. is_good_value f (get_member (text_of key) members)) same ∙ e)))
+    (value_there (row_of place.table place.index members) (keys_of (fields_of place.table))
+    (fields_of place.table) f within
+    (ap (λ key. is_good_value f (get_member (text_of key) members)) same ∙ not_good)))
 bad_field_there ms place (members, at, inr (unknown, other)) =
     row_there ms (BadField place) place.table place.index members at
     (subst (λ key. Contains (bad_in (fields_of place.table) (row_of place.table place.index members))
@@ -249,8 +261,8 @@ good_fields ms good = by (field_faults ms) (fields_are_bad ms)
   where
     -- by whether there is a fault
     by : (faults : List ReadFault) → Each (IsBad ms) faults → faults ≡ []
-    by [] h = refl
-    by (f ∷ faults) h = absurd (good h.0.0 h.0.2)
+    by [] bad = refl
+    by (f ∷ faults) bad = absurd (good bad.0.0 bad.0.2)
 
 -- a document without field faults has good fields
 pub fields_are_good : (ms : Members) → field_faults ms ≡ [] → HasGoodFields ms

@@ -23,22 +23,22 @@ again (suc n) (x ∷ xs) = ap (λ l. x ∷ l) (again n xs)
 -- The whole front begins the pack, so nothing shorter is where it goes wrong. It is no pack itself, since no pack is a
 -- proper front of another.
 pub fronts_of_packs : FrontsOfPacksAreRefused
-fronts_of_packs t n h l =
-    let front : length (take n (spelling t)) ≡ n = omega (arith, length-take n (spelling t), l) in
+fronts_of_packs t n lawful n_short =
+    let front : length (take n (spelling t)) ≡ n = omega (arith, length-take n (spelling t), n_short) in
     record {
       place = omega (arith, front);
-      goes_on = subst BeginsPack (sym (again n (spelling t))) (t, drop n (spelling t), h, parted n (spelling t));
+      goes_on = subst BeginsPack (sym (again n (spelling t))) (t, drop n (spelling t), lawful, parted n (spelling t));
       no_further = λ less _. absurd (omega (arith, front, less));
       longest = λ m le _. omega (arith, front, le);
-      no_pack = λ u f e.
-          let rest = no_proper_prefix t u (drop n (spelling t)) h f
-          (parted n (spelling t) ∙ ap (λ b. b ++ drop n (spelling t)) e) in
-          let none : length (drop n (spelling t)) ≡ 0 = ap length rest in
+      no_pack = λ other other_lawful same.
+          let no_rest = no_proper_prefix t other (drop n (spelling t)) lawful other_lawful
+          (parted n (spelling t) ∙ ap (λ b. b ++ drop n (spelling t)) same) in
+          let none : length (drop n (spelling t)) ≡ 0 = ap length no_rest in
           absurd (omega (
             arith,
             none,
             front,
-            l,
+            n_short,
             ap length (parted n (spelling t)),
             length-append (take n (spelling t)) (drop n (spelling t)),
           ));

@@ -46,56 +46,57 @@ use Rattle.cpg_laws.specs.GraphFiles.{GraphFilesShowFirstFaults}
 bind : {T U : Type 0} (fs gs : List ReadFault) (r : Reading T) (next : T → Reading U) → IsFirst fs r →
     ((x : T) → r ≡ Ok x → IsFirst gs (next x)) →
     IsFirst (fs ++ gs) (r >>= next)
-bind [] gs r next h more = subst (λ z. IsFirst gs (z >>= next)) (sym h.1) (more h.0 h.1)
-bind (f ∷ fs) gs r next h more = ap (λ z. z >>= next) h
+bind [] gs r next is_first more = subst (λ z. IsFirst gs (z >>= next)) (sym is_first.1) (more is_first.0 is_first.1)
+bind (f ∷ fs) gs r next is_first more = ap (λ z. z >>= next) is_first
 
 -- if step `r` is refused by the first of `fs`, and step `next` by the first of `gs`, both one after the other are
 -- refused by the first of `fs ++ gs`
 seq : {T U : Type 0} (fs gs : List ReadFault) (r : Reading T) (next : Reading U) → IsFirst fs r → IsFirst gs next →
     IsFirst (fs ++ gs) (r >> next)
-seq [] gs r next h more = subst (λ z. IsFirst gs (z >> next)) (sym h.1) more
-seq (f ∷ fs) gs r next h more = ap (λ z. z >> next) h
+seq [] gs r next is_first more = subst (λ z. IsFirst gs (z >> next)) (sym is_first.1) more
+seq (f ∷ fs) gs r next is_first more = ap (λ z. z >> next) is_first
 
 -- if step `r` is refused by the first of `fs`, it is so with a last step that makes `f x` of what it reads and can't be
 -- refused
 bind_last : {T U : Type 0} (fs : List ReadFault) (r : Reading T) (f : T → U) → IsFirst fs r →
     IsFirst fs (r >>= (λ x. pure (f x)))
-bind_last [] r f h = (f h.0, ap (λ z. z >>= (λ x. pure (f x))) h.1)
-bind_last (g ∷ gs) r f h = ap (λ z. z >>= (λ x. pure (f x))) h
+bind_last [] r f is_first = (f is_first.0, ap (λ z. z >>= (λ x. pure (f x))) is_first.1)
+bind_last (g ∷ gs) r f is_first = ap (λ z. z >>= (λ x. pure (f x))) is_first
 
 -- if step `r` is refused by the first of `fs`, it is so if the value `y` is given after it
 seq_last : {T U : Type 0} (fs : List ReadFault) (r : Reading T) (y : U) → IsFirst fs r → IsFirst fs (r >> pure y)
-seq_last [] r y h = (y, ap (λ z. z >> pure y) h.1)
-seq_last (g ∷ gs) r y h = ap (λ z. z >> pure y) h
+seq_last [] r y is_first = (y, ap (λ z. z >> pure y) is_first.1)
+seq_last (g ∷ gs) r y is_first = ap (λ z. z >> pure y) is_first
 
 -- if step `r` is refused by the first of `fs`, and the step on what it reads by the first of `gs ++ hs`, both are
 -- refused by the first of the three lists, grouped as `(fs ++ gs) ++ hs`
 bind_within : {T U : Type 0} (fs gs hs : List ReadFault) (r : Reading T) (next : T → Reading U) → IsFirst fs r →
     ((x : T) → r ≡ Ok x → IsFirst (gs ++ hs) (next x)) →
     IsFirst ((fs ++ gs) ++ hs) (r >>= next)
-bind_within [] gs hs r next h more = subst (λ z. IsFirst (gs ++ hs) (z >>= next)) (sym h.1) (more h.0 h.1)
-bind_within (f ∷ fs) gs hs r next h more = ap (λ z. z >>= next) h
+bind_within [] gs hs r next is_first more =
+    subst (λ z. IsFirst (gs ++ hs) (z >>= next)) (sym is_first.1) (more is_first.0 is_first.1)
+bind_within (f ∷ fs) gs hs r next is_first more = ap (λ z. z >>= next) is_first
 
 -- if step `r` is refused by the first of `fs`, and step `next` by the first of `gs ++ hs`, both are refused by the
 -- first of the three lists, grouped as `(fs ++ gs) ++ hs`
 seq_within : {T U : Type 0} (fs gs hs : List ReadFault) (r : Reading T) (next : Reading U) → IsFirst fs r →
     IsFirst (gs ++ hs) next →
     IsFirst ((fs ++ gs) ++ hs) (r >> next)
-seq_within [] gs hs r next h more = subst (λ z. IsFirst (gs ++ hs) (z >> next)) (sym h.1) more
-seq_within (f ∷ fs) gs hs r next h more = ap (λ z. z >> next) h
+seq_within [] gs hs r next is_first more = subst (λ z. IsFirst (gs ++ hs) (z >> next)) (sym is_first.1) more
+seq_within (f ∷ fs) gs hs r next is_first more = ap (λ z. z >> next) is_first
 
 -- a test `b` that refuses with one fault if it fails, and what follows it if it passes, are refused by the first of
 -- that fault and `fs`
 or_next : {T : Type 0} (b : Bool) (fault : ReadFault) (fs : List ReadFault) (next : Reading T) → IsFirst fs next →
     IsFirst (unless b fault ++ fs) (if b then next else Err fault)
-or_next true fault fs next h = h
-or_next false fault fs next h = refl
+or_next true fault fs next is_first = is_first
+or_next false fault fs next is_first = refl
 
 -- a test `b` that refuses with one fault if it passes, before a step, is refused by the first of that fault and `fs`
 if_next : {T : Type 0} (b : Bool) (fault : ReadFault) (fs : List ReadFault) (next : Reading T) → IsFirst fs next →
     IsFirst (unless (not b) fault ++ fs) (if b then Err fault else next)
-if_next true fault fs next h = refl
-if_next false fault fs next h = h
+if_next true fault fs next is_first = refl
+if_next false fault fs next is_first = is_first
 
 -- if the step for each element `x` at its number is refused by the first of its faults, the steps over `xs`, numbered
 -- from `i`, are refused by the first of all faults
@@ -106,7 +107,7 @@ each_first : {T U : Type 0} (faults : ℕ → T → List ReadFault) (step : ℕ 
 each_first faults step first i [] = ([], refl)
 each_first faults step first i (x ∷ xs) = bind (faults i x) (of_each faults (i + 1) xs) (step i x)
     (λ y. each step (i + 1) xs >>= (λ ys. pure (y ∷ ys))) (first i x)
-    (λ y e. bind_last (of_each faults (i + 1) xs) (each step (i + 1) xs) (λ ys. y ∷ ys)
+    (λ y read. bind_last (of_each faults (i + 1) xs) (each step (i + 1) xs) (λ ys. y ∷ ys)
     (each_first faults step first (i + 1) xs))
 
 -- ---- fields
@@ -161,20 +162,20 @@ module _ {T : Type 0} (row : DocumentRow) (key : Key) (as_type : Data → Option
   default_by : (value : T) (o : Option Data) (x : T) →
       (optional_in row key as_type o >>= (λ found. pure (unwrap_or found value))) ≡ Ok x →
       x ≡ unwrap_or (option_and_then as_type o) value
-  default_by value None x e = cc
-  default_by value (Some d) x e = by (as_type d) e
+  default_by value None x read = cc
+  default_by value (Some d) x read = by (as_type d) read
     where
       -- by whether the value is of the type
       by : (y : Option T) → (typed_in row key y >>= (λ found. pure (unwrap_or found value))) ≡ Ok x →
           x ≡ unwrap_or y value
-      by None e = cc
-      by (Some y) e = cc
+      by None read = cc
+      by (Some y) read = cc
 
   -- what is read with a default is what stands there, or the default
   default_is : (value x : T) → with_default value as_type row key ≡ Ok x →
       x ≡ unwrap_or (option_and_then as_type (value_at row key)) value
   unfolding optional
-  default_is value x e = default_by value (value_at row key) x e
+  default_is value x read = default_by value (value_at row key) x read
 
 -- given a row of a document
 module _ (row : DocumentRow) where
@@ -226,7 +227,9 @@ module _ (row : DocumentRow) where
       (λ bytes _. seq_last _ _ _ (only_first row (Node ∷ Length ∷ Bytes ∷ [])))))
 
   -- A process is refused by the first of its bad fields.
-  -- Reading goes field by field in the order of the list, and last come the keys that are none of them.
+  -- Reading goes field by field in the order of the list, and last come the keys that are none of them. The chain has
+  -- one `bind` for each field: the fact on the reading of this field, and then the rest of the chain, for any value
+  -- that was read. The four `_` in front (two lists of faults and two steps) follow from these.
   process_first : IsFirst (bad_in process_fields row) (read_process row)
   unfolding read_process integer_or flag_or
   process_first = bind _ _ _ _ (name_first row Name)
@@ -269,28 +272,30 @@ rows_of : {T : Type 0} (ms : Members) (key : Key) (table : Table) (fields : List
     (members : List Members) → read_array (top_of ms) key ≡ Ok members →
     IsFirst (bad_elements table fields (elements ms key)) (read_rows table element_at members)
 unfolding read_array
-rows_of ms key table fields element_at first members e =
+rows_of ms key table fields element_at first members is_read =
     subst (λ rows. IsFirst (bad_elements table fields rows) (read_rows table element_at members))
-    (default_is (top_of ms) key as_tables [] members e) (rows_first table fields element_at first members)
+    (default_is (top_of ms) key as_tables [] members is_read) (rows_first table fields element_at first members)
 
 -- Reading a document's fields is rejected by the first of its field faults.
 -- Reading goes by the keys of the top, then by the lists, in the order of the faults.
 pub fields_first : (ms : Members) → IsFirst (field_faults ms) (read_raw ms)
 unfolding read_raw
 fields_first ms =
-    bind_within _ _ _ _ _ (integer_first (top_of ms) Faults) (λ faults e1.
-    bind_within _ _ _ _ _ (integer_first (top_of ms) Deadline) (λ deadline e2.
+    bind_within _ _ _ _ _ (integer_first (top_of ms) Faults) (λ faults faults_are.
+    bind_within _ _ _ _ _ (integer_first (top_of ms) Deadline) (λ deadline deadline_is.
     bind_within _ _ _ _ _ (list_first (top_of ms) Node) (λ node_tables nodes_are.
     bind_within _ _ _ _ _ (list_first (top_of ms) Slot) (λ slot_tables slots_are.
     bind_within _ _ _ _ _ (list_first (top_of ms) Process) (λ process_tables processes_are.
     bind_within _ _ _ _ _ (list_first (top_of ms) Edge) (λ edge_tables edges_are.
-    bind_within _ _ _ _ _ (optional_first (top_of ms) Order as_names) (λ order e6.
+    bind_within _ _ _ _ _ (optional_first (top_of ms) Order as_names) (λ order order_is.
     seq _ _ _ _ (only_first (top_of ms) (Faults ∷ Deadline ∷ Node ∷ Slot ∷ Process ∷ Edge ∷ Order ∷ []))
-    (bind _ _ _ _ (rows_of ms Node tables.Node node_fields read_node node_first node_tables nodes_are) (λ nodes e3.
-    bind _ _ _ _ (rows_of ms Slot tables.Slot slot_fields read_slot slot_first slot_tables slots_are) (λ slots e4.
+    (bind _ _ _ _ (rows_of ms Node tables.Node node_fields read_node node_first node_tables nodes_are)
+    (λ nodes nodes_read.
+    bind _ _ _ _ (rows_of ms Slot tables.Slot slot_fields read_slot slot_first slot_tables slots_are)
+    (λ slots slots_read.
     bind _ _ _ _
     (rows_of ms Process tables.Process process_fields read_process process_first process_tables processes_are)
-    (λ processes e5.
+    (λ processes processes_read.
     bind_last _ _ _ (rows_of ms Edge tables.Edge edge_fields read_edge edge_first edge_tables edges_are))))))))))))
 
 -- ---- limits
@@ -361,8 +366,8 @@ module _ (table : Table) (key : Key) (own : (i : ℕ) → name_place table i key
 -- so: all are one fault at one place
 if_one : {T : Type 0} (b c : Bool) (fault : ReadFault) (next : Reading T) → IsFirst (unless c fault) next →
     IsFirst (unless (not b && c) fault) (if b then Err fault else next)
-if_one true c fault next h = refl
-if_one false c fault next h = h
+if_one true c fault next told = refl
+if_one false c fault next told = told
 
 -- the names of an order, from one on, are refused for one that stands before
 order_apart_from : (i : ℕ) (earlier names : List (List ℕ)) →
@@ -406,15 +411,15 @@ process_number_first nodes i p = bind_last _ _ _ (number_first nodes p.node tabl
 ends_first : (names : List (List ℕ)) (i : ℕ) (e : RawEdge) → IsFirst (unknown_ends names i e) (edge_of names i e)
 unfolding edge_of
 ends_first names i e = bind _ _ _ _ (number_first names e.from tables.Edge i From)
-    (λ from e1. bind_last _ _ _ (number_first names e.to tables.Edge i To))
+    (λ from from_is. bind_last _ _ _ (number_first names e.to tables.Edge i To))
 
 -- if `o`, which a name was looked up as, is `None`, the reading is refused for the name at place `at`, before what
 -- comes after it (`next`)
 known_next : {T : Type 0} (at : Place) (o : Option ℕ) (c : Bool) (next : ℕ → Reading T) →
     ((n : ℕ) → IsFirst (unless c (UnknownName at)) (next n)) →
     IsFirst (unless (is_some o && c) (UnknownName at)) (known at o >>= next)
-known_next at None c next h = refl
-known_next at (Some n) c next h = h n
+known_next at None c next told = refl
+known_next at (Some n) c next told = told n
 
 -- the numbers of an order's names are refused for a name that isn't known
 order_numbers : (names : List (List ℕ)) (i : ℕ) (order : List (List ℕ)) →
@@ -439,11 +444,11 @@ resolved_first : (g : RawGraph) → IsFirst (unknown_faults g) (resolved g)
 unfolding resolved
 resolved_first g =
     bind _ _ _ _ (each_first (λ i s. unknown g.nodes s.node tables.Slot i Node) (slot_of g.nodes)
-    (slot_number_first g.nodes) 0 g.slots) (λ slots e1.
+    (slot_number_first g.nodes) 0 g.slots) (λ slots slots_made.
     bind _ _ _ _ (each_first (λ i p. unknown g.nodes p.node tables.Process i Node) (process_of g.nodes)
-    (process_number_first g.nodes) 0 g.processes) (λ processes e2.
+    (process_number_first g.nodes) 0 g.processes) (λ processes processes_made.
     bind _ _ _ _ (each_first (unknown_ends (process_names g.processes)) (edge_of (process_names g.processes))
-    (ends_first (process_names g.processes)) 0 g.edges) (λ edges e3.
+    (ends_first (process_names g.processes)) 0 g.edges) (λ edges edges_made.
     bind_last _ _ _ (order_first (process_names g.processes) g.order))))
 
 -- making the graph is refused by the first double name, or else the first unknown one
@@ -462,7 +467,7 @@ problem_first : (ms : Members) → IsFirst (field_faults ms ++ graph_faults (rea
 unfolding read_members
 problem_first ms =
     bind (field_faults ms) (graph_faults (read_raw ms)) (read_raw ms) (λ g. limits g >> graph_of g) (fields_first ms)
-    (λ g e. subst (λ z. IsFirst (graph_faults z) (limits g >> graph_of g)) (sym e)
+    (λ g is_read. subst (λ z. IsFirst (graph_faults z) (limits g >> graph_of g)) (sym is_read)
     (seq (limit_faults g) (double_faults g ++ unknown_faults g) (limits g) (graph_of g) (limits_first g)
     (names_first g)))
 

@@ -41,8 +41,8 @@ pub good_value : (ms : Members) → HasGoodFields ms → (t : Table) (i : ℕ) (
     (f : Field) →
     Contains (fields_of t) f →
     is_good_value f (get_member (text_of f.key) row) ≡ true
-good_value ms good t i row at f c = true_from_ne_false (is_good_value f (get_member (text_of f.key) row))
-    (λ e. good (record { table = t; index = i; key = f.key }) (row, at, inl (f, c, refl, e)))
+good_value ms good t i row at f within = true_from_ne_false (is_good_value f (get_member (text_of f.key) row))
+    (λ not_good. good (record { table = t; index = i; key = f.key }) (row, at, inl (f, within, refl, not_good)))
 
 -- what is found at a key of row `i` of table `t` of the document is what the row has there
 pub found_in : (ms : Members) (t : Table) (i : ℕ) (row : Members) (key : Key) → table_at ms t i ≡ Some row →
@@ -52,8 +52,8 @@ found_in ms t i row key at = ap (λ o. option_and_then (get_member (text_of key)
 -- if `d` is found at a key of a table `o`, the table is there and has it
 pub found_parts : (o : Option Members) (text : List ℕ) (d : Data) → option_and_then (get_member text) o ≡ Some d →
     (row : Members) × (o ≡ Some row) × (get_member text row ≡ Some d)
-found_parts None text d e = cc
-found_parts (Some row) text d e = (row, refl, e)
+found_parts None text d found = cc
+found_parts (Some row) text d found = (row, refl, found)
 
 -- ---- numbers
 
@@ -69,7 +69,7 @@ IsOver ms fault = (what : What) × (fault ≡ OverLimit what) × IsOverLimit ms 
 
 -- the least number of a range is in it
 low_is_within : (low high : ℕ) → nat_le low high ≡ true → is_within low high (pos low) ≡ true
-low_is_within low high h = and_from (nat_le low low) (nat_le low high) (le-leb low low (omega arith)) h
+low_is_within low high ordered = and_from (nat_le low low) (nat_le low high) (le-leb low low (omega arith)) ordered
 
 -- A number out of range stands in the document, since the default is in range. By what stands at the key, `o`: anything
 -- but an integer counts as the default.
@@ -77,14 +77,14 @@ outside : (low high : ℕ) (o : Option Data) → nat_le low high ≡ true →
     is_within low high (unwrap_or (option_and_then as_integer o) (pos low)) ≡ false →
     (z : ℤ) × (o ≡ Some (integer z)) ×
     (is_within low high z ≡ false)
-outside low high None h e = absurd (true≢false (sym (low_is_within low high h) ∙ e))
-outside low high (Some (integer z)) h e = (z, refl, e)
-outside low high (Some (string s)) h e = absurd (true≢false (sym (low_is_within low high h) ∙ e))
-outside low high (Some (float x)) h e = absurd (true≢false (sym (low_is_within low high h) ∙ e))
-outside low high (Some (boolean b)) h e = absurd (true≢false (sym (low_is_within low high h) ∙ e))
-outside low high (Some (datetime t)) h e = absurd (true≢false (sym (low_is_within low high h) ∙ e))
-outside low high (Some (array ds)) h e = absurd (true≢false (sym (low_is_within low high h) ∙ e))
-outside low high (Some (table m)) h e = absurd (true≢false (sym (low_is_within low high h) ∙ e))
+outside low high None ordered out = absurd (true≢false (sym (low_is_within low high ordered) ∙ out))
+outside low high (Some (integer z)) ordered out = (z, refl, out)
+outside low high (Some (string s)) ordered out = absurd (true≢false (sym (low_is_within low high ordered) ∙ out))
+outside low high (Some (float x)) ordered out = absurd (true≢false (sym (low_is_within low high ordered) ∙ out))
+outside low high (Some (boolean b)) ordered out = absurd (true≢false (sym (low_is_within low high ordered) ∙ out))
+outside low high (Some (datetime t)) ordered out = absurd (true≢false (sym (low_is_within low high ordered) ∙ out))
+outside low high (Some (array ds)) ordered out = absurd (true≢false (sym (low_is_within low high ordered) ∙ out))
+outside low high (Some (table m)) ordered out = absurd (true≢false (sym (low_is_within low high ordered) ∙ out))
 
 -- whether the least of a range is no more than its greatest
 abbrev is_range : Range → Bool
@@ -114,17 +114,17 @@ module _ (ms : Members) (t : Table) (i : ℕ) (row : Members) (at : table_at ms 
       each_joined (IsOver ms) (unless (is_within r.low r.high (integer_in row r.key (pos r.low)))
       (number_fault t i r.key)) (out_of_range t i (numbers_in row rs))
       (each_unless (IsOver ms) (is_within r.low r.high (integer_in row r.key (pos r.low)))
-      (number_fault t i r.key) (λ e.
-      let (z, found, out) = outside r.low r.high (get_member (text_of r.key) row) here e in (
+      (number_fault t i r.key) (λ not_within.
+      let (z, found, out) = outside r.low r.high (get_member (text_of r.key) row) here not_within in (
         Number (record { table = t; index = i; key = r.key }),
         refl,
         (r, those r (Contains-first r rs), refl, z, found_in ms t i row r.key at ∙ found, out),
       )))
-      (numbers_over rs (λ q c. those q (Contains-rest r rs q c)) rest)
+      (numbers_over rs (λ q within. those q (Contains-rest r rs q within)) rest)
 
   -- each number out of range that is found in a row stands in the document
   row_over : Each (IsOver ms) (out_of_range t i (numbers_in row (ranges_of t)))
-  row_over = numbers_over (ranges_of t) (λ r c. c) (ranges_are t)
+  row_over = numbers_over (ranges_of t) (λ r within. within) (ranges_are t)
 
 -- if the rows of table `t` are what the document has at their places, each number of theirs that is out of its range
 -- stands in the document
@@ -136,9 +136,10 @@ rows_over : {T : Type 0} (ms : Members) (t : Table) (said : Members → T) (numb
 rows_over ms t said numbers rows same are =
     subst (Each (IsOver ms)) (sym (of_each_mapped (λ i x. out_of_range t i (numbers x)) said 0 rows))
     (each_of_each (IsOver ms) (λ i row. slice_get rows i ≡ Some row) (λ i row. out_of_range t i (numbers (said row)))
-    (λ i row e. subst (λ ns. Each (IsOver ms) (out_of_range t i ns)) (sym (same row)) (row_over ms t i row (are i ∙ e)))
+    (λ i row here. subst (λ ns. Each (IsOver ms) (out_of_range t i ns)) (sym (same row))
+    (row_over ms t i row (are i ∙ here)))
     0 rows
-    (stand_all (λ i row. slice_get rows i ≡ Some row) rows (λ k row e. e)))
+    (stand_all (λ i row. slice_get rows i ≡ Some row) rows (λ k row here. here)))
 
 -- if integer `z` stands in a row at the key of range `r`, one of the ranges `rs`, and is out of it, it is among the
 -- faults of the row; by induction on the ranges
@@ -146,8 +147,8 @@ number_there : (t : Table) (i : ℕ) (row : Members) (z : ℤ) (rs : List Range)
     get_member (text_of r.key) row ≡ Some (integer z) →
     is_within r.low r.high z ≡ false →
     Contains (out_of_range t i (numbers_in row rs)) (number_fault t i r.key)
-number_there t i row z [] r c found out = absurd (Contains-nil r c)
-number_there t i row z (q ∷ rs) r c found out = elim (Contains-cases q rs r c) [
+number_there t i row z [] r within found out = absurd (Contains-nil r within)
+number_there t i row z (q ∷ rs) r within found out = elim (Contains-cases q rs r within) [
   | inl same ↦
       Contains-append_left (unless (is_within q.low q.high (integer_in row q.key (pos q.low))) (number_fault t i q.key))
       (out_of_range t i (numbers_in row rs)) (number_fault t i r.key)
@@ -166,32 +167,33 @@ number_there t i row z (q ∷ rs) r c found out = elim (Contains-cases q rs r c)
 more_than : {T : Type 0} (said : Members → T) (limit : ℕ) (rows : List Members) →
     nat_le (length (map said rows)) limit ≡ false →
     limit < length rows
-more_than said limit rows e = subst (λ n. limit < n) (length-map rows said) (leb-false (length (map said rows)) limit e)
+more_than said limit rows over =
+    subst (λ n. limit < n) (length-map rows said) (leb-false (length (map said rows)) limit over)
 
 -- a list with more elements than the limit is listed as a fault
 too_many_there : {T : Type 0} (said : Members → T) (limit : ℕ) (what : What) (rows : List Members) →
     limit < length rows →
     Contains (too_many limit what (map said rows)) (OverLimit what)
-too_many_there said limit what rows l = unless_contains (nat_le (length (map said rows)) limit) (OverLimit what)
-    (lt-leb (length (map said rows)) limit (subst (λ n. limit < n) (sym (length-map rows said)) l))
+too_many_there said limit what rows over = unless_contains (nat_le (length (map said rows)) limit) (OverLimit what)
+    (lt-leb (length (map said rows)) limit (subst (λ n. limit < n) (sym (length-map rows said)) over))
 
 -- ---- conditions
 
 -- a good flag is read exactly if the key is there
 is_flag_there : (key : Key) (o : Option Data) → is_good_value (flag key) o ≡ true →
     is_some (option_and_then as_bool o) ≡ is_some o
-is_flag_there key None e = refl
-is_flag_there key (Some d) e = e
+is_flag_there key None good = refl
+is_flag_there key (Some d) good = good
 
 -- The sources of the conditional edges are those of the tables with the key `when`.
 -- By induction on the edges: both keep the first or both leave it out.
 edges_are_conditional : (es : List Members) →
     ((e : Members) → Contains es e → is_some (value_in as_bool e When) ≡ is_some (get_member (text_of When) e)) →
     sources (map edge_in es) ≡ map source_name (filter (λ e. is_some (get_member (text_of When) e)) es)
-edges_are_conditional [] h = refl
-edges_are_conditional (e ∷ es) h =
-    by (is_some (value_in as_bool e When)) (is_some (get_member (text_of When) e)) (h e (Contains-first e es))
-    (edges_are_conditional es (λ x c. h x (Contains-rest e es x c)))
+edges_are_conditional [] flags_same = refl
+edges_are_conditional (e ∷ es) flags_same =
+    by (is_some (value_in as_bool e When)) (is_some (get_member (text_of When) e)) (flags_same e (Contains-first e es))
+    (edges_are_conditional es (λ x within. flags_same x (Contains-rest e es x within)))
   where
     -- by whether the edge has a `when`, in the graph and in the document
     by : (b c : Bool) → b ≡ c →
@@ -208,8 +210,8 @@ edges_are_conditional (e ∷ es) h =
 -- the sources of the conditional edges of a document with good fields are those of its tables with the key `when`
 sources_are : (ms : Members) → HasGoodFields ms →
     sources (map edge_in (elements ms Edge)) ≡ map source_name (conditional_edges ms)
-sources_are ms good = edges_are_conditional (elements ms Edge) (λ e c.
-    let (i, at) = slice_get-Contains (elements ms Edge) e c in
+sources_are ms good = edges_are_conditional (elements ms Edge) (λ e within.
+    let (i, at) = slice_get-Contains (elements ms Edge) e within in
     is_flag_there When (get_member (text_of When) e)
     (good_value ms good tables.Edge i e at (flag When) (3, omega arith, refl)))
 
@@ -222,13 +224,13 @@ module _ (ms : Members) (good : HasGoodFields ms) where
   limits_over =
       -- the counts of nodes, slots, processes and edges
       each_joined (IsOver ms) _ _ (each_unless (IsOver ms) _ (OverLimit Nodes)
-      (λ e. (Nodes, refl, more_than node_in MOST_NODES (elements ms Node) e)))
+      (λ over. (Nodes, refl, more_than node_in MOST_NODES (elements ms Node) over)))
       (each_joined (IsOver ms) _ _ (each_unless (IsOver ms) _ (OverLimit Slots)
-      (λ e. (Slots, refl, more_than slot_in MOST_NODES (elements ms Slot) e)))
+      (λ over. (Slots, refl, more_than slot_in MOST_NODES (elements ms Slot) over)))
       (each_joined (IsOver ms) _ _ (each_unless (IsOver ms) _ (OverLimit Processes)
-      (λ e. (Processes, refl, more_than process_in MOST_PROCESSES (elements ms Process) e)))
+      (λ over. (Processes, refl, more_than process_in MOST_PROCESSES (elements ms Process) over)))
       (each_joined (IsOver ms) _ _ (each_unless (IsOver ms) _ (OverLimit Edges)
-      (λ e. (Edges, refl, more_than edge_in MOST_EDGES (elements ms Edge) e)))
+      (λ over. (Edges, refl, more_than edge_in MOST_EDGES (elements ms Edge) over)))
       -- the numbers of the top, of slots, of processes and of edges
       (each_joined (IsOver ms) _ _ (row_over ms tables.Top 0 ms refl)
       (each_joined (IsOver ms) _ _
@@ -239,11 +241,11 @@ module _ (ms : Members) (good : HasGoodFields ms) where
       (rows_over ms tables.Edge edge_in edge_numbers (elements ms Edge) (λ row. refl) (λ i. refl))
       -- and last the count of conditions
       (each_unless (IsOver ms) _ (OverLimit Conditions)
-      (λ e. (
+      (λ over. (
         Conditions,
         refl,
         subst (λ names. MOST_CONDITIONS < length (different [] names)) (sources_are ms good)
-            (leb-false (length (different [] (sources (map edge_in (elements ms Edge))))) MOST_CONDITIONS e),
+            (leb-false (length (different [] (sources (map edge_in (elements ms Edge))))) MOST_CONDITIONS over),
       ))))))))))
 
   -- the fault of too many nodes
@@ -287,79 +289,82 @@ module _ (ms : Members) (good : HasGoodFields ms) where
     -- a fault behind those of the counts is a limit fault
     past_counts : Contains (top_part ++ (slot_part ++ (process_part ++ (edge_part ++ last_part)))) fault →
         Contains (limit_faults (graph_in ms)) fault
-    past_counts c = Contains-append_right node_count _ fault
+    past_counts within = Contains-append_right node_count _ fault
         (Contains-append_right slot_count _ fault
         (Contains-append_right process_count _ fault (Contains-append_right edge_count
-        (top_part ++ (slot_part ++ (process_part ++ (edge_part ++ last_part)))) fault c)))
+        (top_part ++ (slot_part ++ (process_part ++ (edge_part ++ last_part)))) fault within)))
 
     -- a fault behind those of the top table is a limit fault
     past_top : Contains (slot_part ++ (process_part ++ (edge_part ++ last_part))) fault →
         Contains (limit_faults (graph_in ms)) fault
-    past_top c =
-        past_counts (Contains-append_right top_part (slot_part ++ (process_part ++ (edge_part ++ last_part))) fault c)
+    past_top within =
+        past_counts (Contains-append_right top_part
+        (slot_part ++ (process_part ++ (edge_part ++ last_part))) fault within)
 
     -- a fault behind those of the slots is a limit fault
     past_slots : Contains (process_part ++ (edge_part ++ last_part)) fault → Contains (limit_faults (graph_in ms)) fault
-    past_slots c = past_top (Contains-append_right slot_part (process_part ++ (edge_part ++ last_part)) fault c)
+    past_slots within =
+        past_top (Contains-append_right slot_part (process_part ++ (edge_part ++ last_part)) fault within)
 
     -- a fault behind those of the processes is a limit fault
     past_processes : Contains (edge_part ++ last_part) fault → Contains (limit_faults (graph_in ms)) fault
-    past_processes c = past_slots (Contains-append_right process_part (edge_part ++ last_part) fault c)
+    past_processes within = past_slots (Contains-append_right process_part (edge_part ++ last_part) fault within)
 
     -- What stands among the faults of the numbers of row `i` of table `t` stands among the limits of the document. By
     -- the table, each with its part of the list.
     numbers_are_there : (t : Table) (i : ℕ) (row : Members) → table_at ms t i ≡ Some row →
         Contains (out_of_range t i (numbers_in row (ranges_of t))) fault →
         Contains (limit_faults (graph_in ms)) fault
-    numbers_are_there tables.Top zero row at c =
+    numbers_are_there tables.Top zero row at within =
         past_counts (Contains-append_left top_part (slot_part ++ (process_part ++ (edge_part ++ last_part))) fault
         (subst (λ z. Contains (out_of_range tables.Top 0 (numbers_in z (ranges_of tables.Top))) fault)
-        (let same : row ≡ ms = cc in same) c))
-    numbers_are_there tables.Top (suc i) row at c = cc
-    numbers_are_there tables.Node i row at c = absurd (Contains-nil fault c)
-    numbers_are_there tables.Slot i row at c =
+        (let same : row ≡ ms = cc in same) within))
+    numbers_are_there tables.Top (suc i) row at within = cc
+    numbers_are_there tables.Node i row at within = absurd (Contains-nil fault within)
+    numbers_are_there tables.Slot i row at within =
         past_top (Contains-append_left slot_part (process_part ++ (edge_part ++ last_part)) fault
         (of_each_contains (λ i s. out_of_range tables.Slot i (slot_numbers s)) fault i
         (map slot_in (elements ms Slot)) (slot_in row)
-        (slice_get-map slot_in (elements ms Slot) i ∙ ap (option_map slot_in) at) c))
-    numbers_are_there tables.Process i row at c =
+        (slice_get-map slot_in (elements ms Slot) i ∙ ap (option_map slot_in) at) within))
+    numbers_are_there tables.Process i row at within =
         past_slots (Contains-append_left process_part (edge_part ++ last_part) fault
         (of_each_contains (λ i p. out_of_range tables.Process i (process_numbers p)) fault i
         (map process_in (elements ms Process)) (process_in row)
-        (slice_get-map process_in (elements ms Process) i ∙ ap (option_map process_in) at) c))
-    numbers_are_there tables.Edge i row at c = past_processes (Contains-append_left edge_part last_part fault
+        (slice_get-map process_in (elements ms Process) i ∙ ap (option_map process_in) at) within))
+    numbers_are_there tables.Edge i row at within = past_processes (Contains-append_left edge_part last_part fault
         (of_each_contains (λ i e. out_of_range tables.Edge i (edge_numbers e)) fault i
         (map edge_in (elements ms Edge)) (edge_in row)
-        (slice_get-map edge_in (elements ms Edge) i ∙ ap (option_map edge_in) at) c))
+        (slice_get-map edge_in (elements ms Edge) i ∙ ap (option_map edge_in) at) within))
 
   -- Each thing in the document beyond its limit is in the list of limit faults.
   -- By what it is, each with its part of the list.
   pub limit_there : (what : What) → IsOverLimit ms what → Contains (limit_faults (graph_in ms)) (OverLimit what)
   -- the counts of lists come first
-  limit_there Nodes l =
-      Contains-append_left node_count _ (OverLimit Nodes) (too_many_there node_in MOST_NODES Nodes (elements ms Node) l)
-  limit_there Slots l = Contains-append_right node_count _ (OverLimit Slots) (Contains-append_left slot_count _
-      (OverLimit Slots) (too_many_there slot_in MOST_NODES Slots (elements ms Slot) l))
-  limit_there Processes l = Contains-append_right node_count _ (OverLimit Processes)
+  limit_there Nodes over =
+      Contains-append_left node_count _ (OverLimit Nodes)
+      (too_many_there node_in MOST_NODES Nodes (elements ms Node) over)
+  limit_there Slots over = Contains-append_right node_count _ (OverLimit Slots) (Contains-append_left slot_count _
+      (OverLimit Slots) (too_many_there slot_in MOST_NODES Slots (elements ms Slot) over))
+  limit_there Processes over = Contains-append_right node_count _ (OverLimit Processes)
       (Contains-append_right slot_count _ (OverLimit Processes)
       (Contains-append_left process_count _ (OverLimit Processes)
-      (too_many_there process_in MOST_PROCESSES Processes (elements ms Process) l)))
-  limit_there Edges l = Contains-append_right node_count _ (OverLimit Edges)
+      (too_many_there process_in MOST_PROCESSES Processes (elements ms Process) over)))
+  limit_there Edges over = Contains-append_right node_count _ (OverLimit Edges)
       (Contains-append_right slot_count _ (OverLimit Edges)
       (Contains-append_right process_count _ (OverLimit Edges) (Contains-append_left edge_count _ (OverLimit Edges)
-      (too_many_there edge_in MOST_EDGES Edges (elements ms Edge) l))))
+      (too_many_there edge_in MOST_EDGES Edges (elements ms Edge) over))))
   -- a number stands among those of its row
-  limit_there (Number place) (r, c, same, z, found, out) =
+  limit_there (Number place) (r, within, same, z, found, out) =
       let (row, at, value) = found_parts (table_at ms place.table place.index) (text_of place.key) (integer z) found in
       numbers_are_there (OverLimit (Number place)) place.table place.index row at
       (subst (λ key. Contains (out_of_range place.table place.index (numbers_in row (ranges_of place.table)))
       (number_fault place.table place.index key)) same
-      (number_there place.table place.index row z (ranges_of place.table) r c
+      (number_there place.table place.index row z (ranges_of place.table) r within
       (ap (λ key. get_member (text_of key) row) same ∙ value) out))
   -- the count of conditions comes last
-  limit_there Conditions l =
+  limit_there Conditions over =
       past_processes (OverLimit Conditions) (Contains-append_right edge_part last_part (OverLimit Conditions)
       (unless_contains (nat_le (length (different [] (sources (map edge_in (elements ms Edge))))) MOST_CONDITIONS)
       (OverLimit Conditions)
       (lt-leb (length (different [] (sources (map edge_in (elements ms Edge))))) MOST_CONDITIONS
-      (subst (λ names. MOST_CONDITIONS < length (different [] names)) (sym (sources_are ms good)) l))))
+      (subst (λ names. MOST_CONDITIONS < length (different [] names)) (sym (sources_are ms good)) over))))

@@ -11,8 +11,8 @@ use Rattle.cpg_laws.specs.Packs.{PacksAreRefusedAtOnePlace}
 -- if reading `bytes` gives `answer`, they are the spelling of lawful tables `t`, or they are bad from a place `n` on
 answered : (bytes : List ℕ) (answer : Result Tables ℕ) → read bytes ≡ answer →
     ((t : Tables) × AreLawful t × (bytes ≡ spelling t)) ⊎ ((n : ℕ) × IsBadPack bytes n)
-answered bytes (Ok t) e = let r = read_is_spelled bytes t e in inl (t, r.0, r.1)
-answered bytes (Err n) e = inr (n, refused_is_bad bytes n e)
+answered bytes (Ok t) given = let spelled = read_is_spelled bytes t given in inl (t, spelled.0, spelled.1)
+answered bytes (Err n) given = inr (n, refused_is_bad bytes n given)
 
 -- if `bytes` are bad from `n` on, and from `m` on, then `n` is at most `m`
 at_most : (bytes : List ℕ) (n m : ℕ) → IsBadPack bytes n → IsBadPack bytes m → n ≤ m

@@ -1,4 +1,5 @@
--- The faults of a graph file rise: each stands before those that come after it in the list.
+-- The faults of a graph file rise: each is of an earlier kind, or at an earlier place, than those after it in the list.
+-- So the refusal, by the first of the list, is by the first of all.
 use Rattle.std.proofs.Common.{◌≡◌, ℕ, zero, suc, ◌+◌, ◌<◌, ◌≤◌, ◌⊎◌, Bool, true, false, not, List, [], ◌∷◌, ◌++◌, ◌&&◌}
 use Rattle.std.proofs.Common.{Ok, Err, Contains, AllPairs, length, get_or, map, position, is_some, unwrap_or}
 use Rattle.std.proofs.Common.{refl, ◌∙◌, subst, inl, inr, arith}
@@ -38,19 +39,23 @@ use Rattle.cpg_laws.proofs.GraphFiles.{graph_files_show_first_faults}
 -- If rank `a` is earlier than `b`, and `b` than `c`, then `a` is earlier than `c`. By induction on the three lists: the
 -- first number that differs in either step decides.
 earlier_than_both : (a b c : List ℕ) → IsEarlier a b → IsEarlier b c → IsEarlier a c
-earlier_than_both a b [] h k = absurd k
-earlier_than_both a [] (z ∷ c) h k = absurd h
-earlier_than_both [] (y ∷ b) (z ∷ c) h k = tt
-earlier_than_both (x ∷ a) (y ∷ b) (z ∷ c) (inl h) (inl k) = inl (omega (arith, h, k))
-earlier_than_both (x ∷ a) (y ∷ b) (z ∷ c) (inl h) (inr k) = inl (let same = k.0 in omega (arith, h, same))
-earlier_than_both (x ∷ a) (y ∷ b) (z ∷ c) (inr h) (inl k) = inl (let same = h.0 in omega (arith, k, same))
-earlier_than_both (x ∷ a) (y ∷ b) (z ∷ c) (inr h) (inr k) = inr (h.0 ∙ k.0, earlier_than_both a b c h.1 k.1)
+earlier_than_both a b [] first_step second_step = absurd second_step
+earlier_than_both a [] (z ∷ c) first_step second_step = absurd first_step
+earlier_than_both [] (y ∷ b) (z ∷ c) first_step second_step = tt
+earlier_than_both (x ∷ a) (y ∷ b) (z ∷ c) (inl first_step) (inl second_step) =
+    inl (omega (arith, first_step, second_step))
+earlier_than_both (x ∷ a) (y ∷ b) (z ∷ c) (inl first_step) (inr second_step) =
+    inl (let same = second_step.0 in omega (arith, first_step, same))
+earlier_than_both (x ∷ a) (y ∷ b) (z ∷ c) (inr first_step) (inl second_step) =
+    inl (let same = first_step.0 in omega (arith, second_step, same))
+earlier_than_both (x ∷ a) (y ∷ b) (z ∷ c) (inr first_step) (inr second_step) =
+    inr (first_step.0 ∙ second_step.0, earlier_than_both a b c first_step.1 second_step.1)
 
 -- no rank is earlier than itself
 not_itself : (a : List ℕ) → IsEarlier a a → ⊥
-not_itself [] h = h
-not_itself (x ∷ a) (inl h) = omega (arith, h)
-not_itself (x ∷ a) (inr h) = not_itself a h.1
+not_itself [] earlier = earlier
+not_itself (x ∷ a) (inl earlier) = omega (arith, earlier)
+not_itself (x ∷ a) (inr earlier) = not_itself a earlier.1
 
 -- The rank of a fault: its kind, and then what it is compared by in its kind. So `1 ∷ table ∷ element ∷ key` is a bad field,
 -- `2 ∷ what` a limit, with `4 ∷ table ∷ element ∷ key` for a number, and 3 and 4 are names, twice and unknown. A shorter list
@@ -68,35 +73,39 @@ Rise low (fault ∷ faults) high = IsEarlier low (rank_of fault) × Rise (rank_o
 -- faults that rise from above one rank do so from above any lower one
 from_below : (lower low high : List ℕ) (faults : List ReadFault) → IsEarlier lower low → Rise low faults high →
     Rise lower faults high
-from_below lower low high [] l h = earlier_than_both lower low high l h
-from_below lower low high (fault ∷ faults) l h = (earlier_than_both lower low (rank_of fault) l h.0, h.1)
+from_below lower low high [] lower_first rise = earlier_than_both lower low high lower_first rise
+from_below lower low high (fault ∷ faults) lower_first rise =
+    (earlier_than_both lower low (rank_of fault) lower_first rise.0, rise.1)
 
 -- faults that rise to below one rank do so to below any higher one
 to_above : (low high higher : List ℕ) (faults : List ReadFault) → Rise low faults high → IsEarlier high higher →
     Rise low faults higher
-to_above low high higher [] h l = earlier_than_both low high higher h l
-to_above low high higher (fault ∷ faults) h l = (h.0, to_above (rank_of fault) high higher faults h.1 l)
+to_above low high higher [] rise higher_last = earlier_than_both low high higher rise higher_last
+to_above low high higher (fault ∷ faults) rise higher_last =
+    (rise.0, to_above (rank_of fault) high higher faults rise.1 higher_last)
 
 -- two lists of rising faults, one behind the other, rise
 joined : (low middle high : List ℕ) (faults others : List ReadFault) → Rise low faults middle →
     Rise middle others high →
     Rise low (faults ++ others) high
-joined low middle high [] others h k = from_below low middle high others h k
-joined low middle high (fault ∷ faults) others h k = (h.0, joined (rank_of fault) middle high faults others h.1 k)
+joined low middle high [] others first_rise second_rise = from_below low middle high others first_rise second_rise
+joined low middle high (fault ∷ faults) others first_rise second_rise =
+    (first_rise.0, joined (rank_of fault) middle high faults others first_rise.1 second_rise)
 
 -- a fault that may be missing stands before faults that rise
 one_more : (b : Bool) (fault : ReadFault) (faults : List ReadFault) (low high : List ℕ) →
     IsEarlier low (rank_of fault) → Rise (rank_of fault) faults high →
     Rise low (unless b fault ++ faults) high
-one_more true fault faults low high l h = from_below low (rank_of fault) high faults l h
-one_more false fault faults low high l h = (l, h)
+one_more true fault faults low high after_low rest_rises =
+    from_below low (rank_of fault) high faults after_low rest_rises
+one_more false fault faults low high after_low rest_rises = (after_low, rest_rises)
 
 -- a fault that may be missing, by itself, rises
 one : (b : Bool) (fault : ReadFault) (low high : List ℕ) → IsEarlier low (rank_of fault) →
     IsEarlier (rank_of fault) high →
     Rise low (unless b fault) high
-one true fault low high l h = earlier_than_both low (rank_of fault) high l h
-one false fault low high l h = (l, h)
+one true fault low high after_low before_high = earlier_than_both low (rank_of fault) high after_low before_high
+one false fault low high after_low before_high = (after_low, before_high)
 
 -- if the faults of each element `x` rise from bound `at i` to `at (i + 1)`, for its number `i`, those of `xs`, numbered
 -- from `i`, rise from `at i` to any bound `high` above all these
@@ -118,7 +127,7 @@ are_in_order table p (key ∷ keys) =
 
 -- if `p + 1` is at most `q`, then `p` is less than `q`
 after : (p q : ℕ) → p + 1 ≤ q → p < q
-after p q l = omega (arith, l)
+after p q later = omega (arith, later)
 
 -- The faults of one row, from a bound before its keys from position p on.
 -- By induction on the fields: each has a higher position than the one before it, and unknown keys come last.
@@ -138,14 +147,14 @@ fields_rise row keys low p (f ∷ fields) next order =
     (next (position_of row.table f.key) (leb-true p (position_of row.table f.key) here))
     (fields_rise row keys (1 ∷ table_number row.table ∷ row.index ∷ position_of row.table f.key ∷ [])
     (position_of row.table f.key + 1) fields
-    (λ q l. inr (refl, inr (refl, inr (refl, inl (after (position_of row.table f.key) q l))))) rest)
+    (λ q later. inr (refl, inr (refl, inr (refl, inl (after (position_of row.table f.key) q later))))) rest)
 
 -- the bad fields of a row rise by the order of its keys
 row_rises : (row : DocumentRow) (fields : List Field) → are_in_order row.table 0 (map (λ f. f.key) fields) ≡ true →
     Rise (1 ∷ table_number row.table ∷ row.index ∷ []) (bad_in fields row)
     (1 ∷ table_number row.table ∷ (row.index + 1) ∷ [])
 row_rises row fields order = fields_rise row (map (λ f. f.key) fields)
-    (1 ∷ table_number row.table ∷ row.index ∷ []) 0 fields (λ q l. inr (refl, inr (refl, inr (refl, tt)))) order
+    (1 ∷ table_number row.table ∷ row.index ∷ []) 0 fields (λ q any. inr (refl, inr (refl, inr (refl, tt)))) order
 
 -- The faults of the numbers of row `i` of a table rise, from a bound `low` before its keys from position `p` on, up to
 -- the next row. By induction on the numbers: each has a higher position than the one before it.
@@ -164,7 +173,7 @@ numbers_rise table i low p (n ∷ numbers) next order =
     (next (position_of table n.key) (leb-true p (position_of table n.key) here))
     (numbers_rise table i (2 ∷ 4 ∷ table_number table ∷ i ∷ position_of table n.key ∷ [])
     (position_of table n.key + 1) numbers
-    (λ q l. inr (refl, inr (refl, inr (refl, inr (refl, inl (after (position_of table n.key) q l)))))) rest)
+    (λ q later. inr (refl, inr (refl, inr (refl, inr (refl, inl (after (position_of table n.key) q later)))))) rest)
 
 -- the numbers out of range of a row rise by the order of its keys
 number_row_rises : (table : Table) (i : ℕ) (numbers : List BoundedField) →
@@ -172,7 +181,7 @@ number_row_rises : (table : Table) (i : ℕ) (numbers : List BoundedField) →
     Rise (2 ∷ 4 ∷ table_number table ∷ i ∷ []) (out_of_range table i numbers)
     (2 ∷ 4 ∷ table_number table ∷ (i + 1) ∷ [])
 number_row_rises table i numbers order = numbers_rise table i (2 ∷ 4 ∷ table_number table ∷ i ∷ []) 0 numbers
-    (λ q l. inr (refl, inr (refl, inr (refl, inr (refl, tt))))) order
+    (λ q any. inr (refl, inr (refl, inr (refl, inr (refl, tt))))) order
 
 -- ---- the kinds
 
@@ -356,28 +365,30 @@ module _ (high : List ℕ) where
   all_later : (low : List ℕ) (faults : List ReadFault) → Rise low faults high → (fault : ReadFault) →
       Contains faults fault →
       IsEarlier low (rank_of fault)
-  all_later low [] h fault c = absurd (let l = c.1 in omega (arith, l))
-  all_later low (f ∷ faults) h fault (zero, l, e) = subst (λ z. IsEarlier low (rank_of z)) e h.0
-  all_later low (f ∷ faults) h fault (suc k, l, e) = earlier_than_both low (rank_of f) (rank_of fault) h.0
-      (all_later (rank_of f) faults h.1 fault (k, omega (arith, l), e))
+  all_later low [] rise fault within = absurd (let inside = within.1 in omega (arith, inside))
+  all_later low (f ∷ faults) rise fault (zero, inside, is) = subst (λ z. IsEarlier low (rank_of z)) is rise.0
+  all_later low (f ∷ faults) rise fault (suc k, inside, is) = earlier_than_both low (rank_of f) (rank_of fault) rise.0
+      (all_later (rank_of f) faults rise.1 fault (k, omega (arith, inside), is))
 
   -- each rising fault is later than what is below the first
   later_at : (low : List ℕ) (faults : List ReadFault) → Rise low faults high → (j : ℕ) (d : ReadFault) →
       j < length faults →
       IsEarlier low (rank_of (get_or faults j d))
-  later_at low [] h j d l = absurd (omega (arith, l))
-  later_at low (f ∷ faults) h zero d l = h.0
-  later_at low (f ∷ faults) h (suc j) d l = earlier_than_both low (rank_of f) (rank_of (get_or faults j d)) h.0
-      (later_at (rank_of f) faults h.1 j d (omega (arith, l)))
+  later_at low [] rise j d inside = absurd (omega (arith, inside))
+  later_at low (f ∷ faults) rise zero d inside = rise.0
+  later_at low (f ∷ faults) rise (suc j) d inside =
+      earlier_than_both low (rank_of f) (rank_of (get_or faults j d)) rise.0
+      (later_at (rank_of f) faults rise.1 j d (omega (arith, inside)))
 
   -- of each two the first comes before the second
   pairs_rise : (low : List ℕ) (faults : List ReadFault) → Rise low faults high → AllPairs ComesBefore faults
-  pairs_rise low [] h i j d l m = absurd (omega (arith, m))
-  pairs_rise low (f ∷ faults) h zero zero d l m = absurd (omega (arith, l))
-  pairs_rise low (f ∷ faults) h zero (suc j) d l m = later_at (rank_of f) faults h.1 j d (omega (arith, m))
-  pairs_rise low (f ∷ faults) h (suc i) zero d l m = absurd (omega (arith, l))
-  pairs_rise low (f ∷ faults) h (suc i) (suc j) d l m =
-      pairs_rise (rank_of f) faults h.1 i j d (omega (arith, l)) (omega (arith, m))
+  pairs_rise low [] rise i j d i_before_j j_inside = absurd (omega (arith, j_inside))
+  pairs_rise low (f ∷ faults) rise zero zero d i_before_j j_inside = absurd (omega (arith, i_before_j))
+  pairs_rise low (f ∷ faults) rise zero (suc j) d i_before_j j_inside =
+      later_at (rank_of f) faults rise.1 j d (omega (arith, j_inside))
+  pairs_rise low (f ∷ faults) rise (suc i) zero d i_before_j j_inside = absurd (omega (arith, i_before_j))
+  pairs_rise low (f ∷ faults) rise (suc i) (suc j) d i_before_j j_inside =
+      pairs_rise (rank_of f) faults rise.1 i j d (omega (arith, i_before_j)) (omega (arith, j_inside))
 
 -- ---- the first fault
 
@@ -385,21 +396,21 @@ module _ (high : List ℕ) where
 first_or_same : (low high : List ℕ) (f : ReadFault) (faults : List ReadFault) → Rise low (f ∷ faults) high →
     (fault : ReadFault) → Contains (f ∷ faults) fault →
     (f ≡ fault) ⊎ ComesBefore f fault
-first_or_same low high f faults h fault (zero, l, e) = inl e
-first_or_same low high f faults h fault (suc k, l, e) =
-    inr (all_later high (rank_of f) faults h.1 fault (k, omega (arith, l), e))
+first_or_same low high f faults rise fault (zero, inside, is) = inl is
+first_or_same low high f faults rise fault (suc k, inside, is) =
+    inr (all_later high (rank_of f) faults rise.1 fault (k, omega (arith, inside), is))
 
 -- a fault of a rising list is of no earlier kind than the first
 no_earlier_kind : (f fault : ReadFault) → (f ≡ fault) ⊎ ComesBefore f fault → kind_of f ≤ kind_of fault
 no_earlier_kind f fault (inl same) = subst (λ z. kind_of f ≤ kind_of z) same (omega arith)
 no_earlier_kind f fault (inr (inl less)) = omega (arith, less)
-no_earlier_kind f fault (inr (inr h)) = let same = h.0 in omega (arith, same)
+no_earlier_kind f fault (inr (inr later)) = let same = later.0 in omega (arith, same)
 
 -- a fault of a rising list doesn't come before the first
 no_earlier_place : (f fault : ReadFault) → (f ≡ fault) ⊎ ComesBefore f fault → ComesBefore fault f → ⊥
-no_earlier_place f fault (inl same) l = not_itself (rank_of fault) (subst (λ z. ComesBefore fault z) same l)
-no_earlier_place f fault (inr h) l =
-    not_itself (rank_of f) (earlier_than_both (rank_of f) (rank_of fault) (rank_of f) h l)
+no_earlier_place f fault (inl same) earlier = not_itself (rank_of fault) (subst (λ z. ComesBefore fault z) same earlier)
+no_earlier_place f fault (inr later) earlier =
+    not_itself (rank_of f) (earlier_than_both (rank_of f) (rank_of fault) (rank_of f) later earlier)
 
 -- the first fault is in the list
 here : (f : ReadFault) (faults : List ReadFault) → Contains (f ∷ faults) f
@@ -408,19 +419,21 @@ here f faults = (0, omega arith, refl)
 -- the first of rising faults is the first of all
 head_is_first : (low high : List ℕ) (f : ReadFault) (faults : List ReadFault) → Rise low (f ∷ faults) high →
     IsFirstOf (Contains (f ∷ faults)) f
-head_is_first low high f faults h = record {
+head_is_first low high f faults rise = record {
   stands = here f faults;
-  kinds = λ other c. no_earlier_kind f other (first_or_same low high f faults h other c);
-  places = λ other c same l. no_earlier_place f other (first_or_same low high f faults h other c) (inr (same, l));
+  kinds = λ other listed. no_earlier_kind f other (first_or_same low high f faults rise other listed);
+  places =
+      λ other listed same earlier. no_earlier_place f other (first_or_same low high f faults rise other listed)
+      (inr (same, earlier));
 }
 
 -- a reading that is refused by the first of rising faults is refused by the first of all
 told_is_first : {T : Type 0} (low high : List ℕ) (faults : List ReadFault) (r : Reading T) → Rise low faults high →
     IsFirst faults r → (fault : ReadFault) → r ≡ Err fault →
     IsFirstOf (Contains faults) fault
-told_is_first low high [] r h told fault e = absurd (let ok = told.1 in cc)
-told_is_first low high (f ∷ faults) r h told fault e =
-    subst (IsFirstOf (Contains (f ∷ faults))) (let same : f ≡ fault = cc in same) (head_is_first low high f faults h)
+told_is_first low high [] r rise told fault refused = absurd (let ok = told.1 in cc)
+told_is_first low high (f ∷ faults) r rise told fault refused =
+    subst (IsFirstOf (Contains (f ∷ faults))) (let same : f ≡ fault = cc in same) (head_is_first low high f faults rise)
 
 -- A reading that is refused by the first of rising faults is refused by whichever is the first of all.
 -- The first of the list comes before any other, so the first of all is it.
@@ -428,14 +441,15 @@ first_is_told : {T : Type 0} (low high : List ℕ) (faults : List ReadFault) (r 
     IsFirst faults r → (fault : ReadFault) →
     IsFirstOf (Contains faults) fault →
     r ≡ Err fault
-first_is_told low high [] r h told fault first = absurd (let l = first.stands.1 in omega (arith, l))
-first_is_told low high (f ∷ faults) r h told fault first = by (first_or_same low high f faults h fault first.stands)
+first_is_told low high [] r rise told fault first = absurd (let inside = first.stands.1 in omega (arith, inside))
+first_is_told low high (f ∷ faults) r rise told fault first =
+    by (first_or_same low high f faults rise fault first.stands)
   where
     -- by whether the fault that is told is the first one, or comes before it, which none does
     by : (f ≡ fault) ⊎ ComesBefore f fault → r ≡ Err fault
     by (inl same) = subst (λ z. r ≡ Err z) same told
     by (inr (inl less)) = absurd (let le = first.kinds f (here f faults) in omega (arith, less, le))
-    by (inr (inr l)) = absurd (first.places f (here f faults) l.0 l.1)
+    by (inr (inr earlier_place)) = absurd (first.places f (here f faults) earlier_place.0 earlier_place.1)
 
 -- A graph file is rejected by the one fault that stands before all others.
 -- It is refused by the first in the list, and the list rises.

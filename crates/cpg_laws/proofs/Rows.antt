@@ -7,6 +7,6 @@ use Rattle.cpg_laws.specs.Tables.{FormedRowsHaveFewColumns}
 
 -- a formed row has no more columns than there are ways in which its variables can stand
 pub formed_rows_have_few_columns : FormedRowsHaveFewColumns
-formed_rows_have_few_columns g tables urgency reached x few activity single l formed =
+formed_rows_have_few_columns g tables urgency reached x few activity single inside formed =
     columns_within_views g few reached urgency (columns_of tables x) formed
-    (row_keeps g tables x (λ s i law. (activity s law x l (Some i), single s law x l (Some i))))
+    (row_keeps g tables x (λ s i law. (activity s law x inside (Some i), single s law x inside (Some i))))

@@ -198,12 +198,12 @@ IsFaulty bytes fault = IsFaultIn (document bytes) fault
 pub record IsRefusedByDocument (bytes : List ℕ) : Type 0 where
   -- the listed faults are those that the document has
   pub faults : (fault : ReadFault) → Contains (faults_of bytes) fault ↔ IsFaulty bytes fault
-  -- the refusal names the first of them
+  -- the file is refused with a fault exactly if this is the first of them
   pub first : (fault : ReadFault) → (problem_of bytes ≡ Err fault) ↔ IsFirstOf (IsFaulty bytes) fault
   -- there is one first fault at most
   pub one : (fault other : ReadFault) → IsFirstOf (IsFaulty bytes) fault → IsFirstOf (IsFaulty bytes) other →
       fault ≡ other
-  -- a file without faults is read as a graph
+  -- the file is read as a graph exactly if it has no fault
   pub read : ((g : Graph) × (problem_of bytes ≡ Ok g)) ↔ ((fault : ReadFault) → IsFaulty bytes fault → ⊥)
 
 -- each graph file is rejected by what its document has

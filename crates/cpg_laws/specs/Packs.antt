@@ -1,4 +1,4 @@
--- A law on packs and their refusal.
+-- Laws on packs and their refusal.
 use Rattle.std.specs.Prelude.{ℕ, ◌≡◌, ◌<◌, ◌⊎◌, List, length, take}
 use Rattle.cpg_table.specs.Lawful.{Tables}
 use Rattle.cpg_codec.specs.Packs.{AreLawful, IsBadPack}

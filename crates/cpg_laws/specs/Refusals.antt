@@ -134,7 +134,7 @@ IsFirstRefusal bytes fault = IsFirstOf (Contains (faults_of bytes)) fault
 
 -- a graph file is refused with a fault exactly if that is its first one; its faults are listed in this order
 pub record RefusesFirst (bytes : List ℕ) : Type 0 where
-  -- the refusal names the first fault
+  -- the file is refused with a fault exactly if this is its first one
   pub first : (fault : ReadFault) → (problem_of bytes ≡ Err fault) ↔ IsFirstRefusal bytes fault
   -- the faults are listed in this order, with no two at one place
   pub rise : AllPairs ComesBefore (faults_of bytes)

@@ -48,10 +48,10 @@ module _ (g : Graph) (order : List ℕ) where
   pub none_made : (urgency : List ℕ) (frozen : List (Option ℕ)) (rows : List Row) →
       rows ≡ map blank (numbers_below (item_count g)) →
       AreMade g urgency order frozen (IsBefore g order 0) rows
-  none_made urgency frozen rows e = record {
-    items = ap items_of e ∙ items_blank (numbers_below (item_count g));
+  none_made urgency frozen rows is = record {
+    items = ap items_of is ∙ items_blank (numbers_below (item_count g));
     each = λ x l h. absurd (omega (arith, h));
-    none = λ x h. ap (λ (rs : List Row). get_or (columns_of_rows rs) x []) e
+    none = λ x h. ap (λ (rs : List Row). get_or (columns_of_rows rs) x []) is
         ∙ columns_blank (numbers_below (item_count g)) x;
   }
 
@@ -67,10 +67,10 @@ module _ (g : Graph) (order : List ℕ) where
       ((s : Scenario) → literals s ≡ []) →
       cubes ≡ replicate (length scenarios) [] →
       AreCubesOf k scenarios literals cubes
-  wholes k scenarios literals cubes none e = record {
-    count = ap length e ∙ length-replicate (length scenarios) [];
+  wholes k scenarios literals cubes none is = record {
+    count = ap length is ∙ length-replicate (length scenarios) [];
     each = λ i d l. subst (λ ls. IsCubeOf k ls (get_or cubes i [])) (sym (none (get_or scenarios i d)))
-        (subst (IsCubeOf k []) (sym (ap (λ cs. get_or cs i []) e ∙ get_or-replicate (length scenarios) i [] [] l))
+        (subst (IsCubeOf k []) (sym (ap (λ cs. get_or cs i []) is ∙ get_or-replicate (length scenarios) i [] [] l))
         (whole_cube k));
   }
 
@@ -98,6 +98,6 @@ module _ (g : Graph) (order : List ℕ) where
       AreRows g urgency order frozen (columns_of_rows rows)
   all_rows topological urgency frozen rows are = record {
     count = length-map rows (λ (r : Row). r.columns) ∙ count_of rows (item_count g) are.items;
-    each = λ x l. are.each x l (place_in_order (process_count g) order topological.all (producer g x)
-        (omega (arith, producer_in_range g order topological x l)));
+    each = λ x within. are.each x within (place_in_order (process_count g) order topological.all (producer g x)
+        (omega (arith, producer_in_range g order topological x within)));
   }

@@ -49,12 +49,12 @@ timed_of g urgency order trees frozen is topological times = record {
 
 -- there are as many rows as items
 pub count_of : (rows : List Row) (n : ℕ) → items_of rows ≡ numbers_below n → length rows ≡ n
-count_of rows n e = sym (length-map rows (λ (r : Row). r.item)) ∙ ap length e ∙ length-range_with_len 0 n
+count_of rows n is = sym (length-map rows (λ (r : Row). r.item)) ∙ ap length is ∙ length-range_with_len 0 n
 
 -- ---- one row set
 
 -- given: rows, and the next ones, in which the columns of the item x are set
-module _ (rows next : List Row) (x : ℕ) (columns : List Column) (l : x < length rows)
+module _ (rows next : List Row) (x : ℕ) (columns : List Column) (within : x < length rows)
     (is : next ≡ set rows x (record { item = x; columns = columns })) where
   -- the columns of the next rows are those before, but for the item's
   columns_set : columns_of_rows next ≡ set (columns_of_rows rows) x columns
@@ -63,7 +63,8 @@ module _ (rows next : List Row) (x : ℕ) (columns : List Column) (l : x < lengt
   -- in the next rows, the item has its new columns
   pub row_here : row_at (columns_of_rows next) x ≡ columns
   row_here = ap (λ cs. row_at cs x) columns_set
-      ∙ get_or-set_same (columns_of_rows rows) x columns [] (omega (arith, l, length-map rows (λ (r : Row). r.columns)))
+      ∙ get_or-set_same (columns_of_rows rows) x columns []
+      (omega (arith, within, length-map rows (λ (r : Row). r.columns)))
 
   -- the rows of other items are the same
   pub row_other : (y : ℕ) → y ≢ x → row_at (columns_of_rows next) y ≡ row_at (columns_of_rows rows) y
@@ -71,13 +72,14 @@ module _ (rows next : List Row) (x : ℕ) (columns : List Column) (l : x < lengt
 
   -- the next rows are of the same items, since the row at the place x is that of the item x
   pub items_set : (n : ℕ) → items_of rows ≡ numbers_below n → items_of next ≡ numbers_below n
-  items_set n e =
+  items_set n same =
       let blank : Row = record { item = 0; columns = [] } in
       let own : x ≡ (get_or rows x blank).item =
-      sym (get_or-range_with_len 0 n x 0 (omega (arith, l, count_of rows n e)) ∙ omega arith)
-      ∙ ap (λ xs. get_or xs x 0) (sym e) ∙
-      get_or-map (λ (r : Row). r.item) rows x blank 0 l in
-      ap items_of is ∙ map-set_same (λ (r : Row). r.item) rows x (record { item = x; columns = columns }) blank own ∙ e
+      sym (get_or-range_with_len 0 n x 0 (omega (arith, within, count_of rows n same)) ∙ omega arith)
+      ∙ ap (λ xs. get_or xs x 0) (sym same) ∙
+      get_or-map (λ (r : Row). r.item) rows x blank 0 within in
+      ap items_of is ∙ map-set_same (λ (r : Row). r.item) rows x
+      (record { item = x; columns = columns }) blank own ∙ same
 
 -- ---- one more item made
 
@@ -103,12 +105,12 @@ module _ (g : Graph) (urgency order : List ℕ) (frozen : List (Option ℕ)) (ti
   }
 
   -- an item all of whose earlier items are made, and its entries
-  module _ (x : ℕ) (l : x < item_count g)
+  module _ (x : ℕ) (within : x < item_count g)
       (earlier : (y : ℕ) → place order (producer g y) < place order (producer g x) → made y)
       (entries : List Column) (found : AreEntriesOf g order frozen (columns_of_rows rows) x entries) where
     -- the entries of the item can be merged, as they have the times of the runs
     pub mergeable : AreMergeable g entries
-    mergeable = (entries_have_times g urgency order frozen (columns_of_rows rows) x entries timed l
+    mergeable = (entries_have_times g urgency order frozen (columns_of_rows rows) x entries timed within
         (before_are (place order (producer g x)) earlier) found).0
 
     -- the row of the item is set to its entries merged
@@ -116,7 +118,7 @@ module _ (g : Graph) (urgency order : List ℕ) (frozen : List (Option ℕ)) (ti
         (next : List Row) (is : IsRowSet g urgency x entries rows next) where
       -- the item has a row
       inside : x < length rows
-      inside = omega (arith, l, count_of rows (item_count g) are.items)
+      inside = omega (arith, within, count_of rows (item_count g) are.items)
 
       -- the rows of items from earlier processes stay
       pub same_before : (bound : ℕ) → bound ≤ place order (producer g x) →
@@ -136,7 +138,7 @@ module _ (g : Graph) (urgency order : List ℕ) (frozen : List (Option ℕ)) (ti
               (are.each y m old)
           | inr same ↦ subst (IsRowOf g urgency order frozen (columns_of_rows next)) (sym same) (record {
             entries = entries;
-            are = entries_alike g urgency order frozen timed (columns_of_rows rows) (columns_of_rows next) x l
+            are = entries_alike g urgency order frozen timed (columns_of_rows rows) (columns_of_rows next) x within
                 (same_before (place order (producer g x)) (omega arith)) entries found;
             merge = subst (IsMergeOf g urgency entries) (sym (row_here rows next x is.columns inside is.set)) is.merge;
           })
@@ -168,14 +170,14 @@ no_elements P = λ k d l. absurd (omega (arith, l))
 no_merge : (g : Graph) (urgency : List ℕ) → IsMergeOf g urgency [] []
 no_merge g urgency = record {
   times = λ s law. refl;
-  wider = λ s e c law j i a b. absurd (Contains-nil e j);
+  wider = λ s e c law there i a b. absurd (Contains-nil e there);
   cubes = no_elements (λ (c : Column). IsCube g c.cube);
   within = λ k d l. absurd (omega (arith, l));
   not_whole = λ k d l. absurd (omega (arith, l));
   met = λ k d l. absurd (omega (arith, l));
-  ordered = λ i j c d s t h a b x y. absurd (no_column i c a);
-  merged = λ i j v c d h a b e r. absurd (no_column i c a);
-  spoken = λ c m j i. absurd (Contains-nil c j);
+  ordered = λ i j c d s t h found b x y. absurd (no_column i c found);
+  merged = λ i j v c d h found b e r. absurd (no_column i c found);
+  spoken = λ c m there i. absurd (Contains-nil c there);
 }
   where
     -- an empty row has a column at no place
@@ -188,12 +190,12 @@ pub unsent_row : (g : Graph) (urgency order : List ℕ) (frozen : List (Option �
     x < item_count g → process_count g ≤ x →
     is_sent g x ≡ false →
     row_at rows x ≡ [] → IsRowOf g urgency order frozen rows x
-unsent_row g urgency order frozen rows x l above off none = record {
+unsent_row g urgency order frozen rows x within above off none = record {
   entries = [];
   are = record {
-    each = λ e j. absurd (Contains-nil e j);
+    each = λ e there. absurd (Contains-nil e there);
     apart = AllPairs-nil (λ (d e : Column). lows g d.cube ≢ lows g e.cube);
-    all = λ s e is least. absurd (elim (item_cases g x l) [
+    all = λ s e is least. absurd (elim (item_cases g x within) [
       | inl c ↦ omega (arith, c.0, above)
       | inr (inl c) ↦ both_ways (is_sent_item g (item_at g x)) off (of_message s.values (item_at g x) c.0 c.3 is.active)
       | inr (inr c) ↦
@@ -206,11 +208,11 @@ unsent_row g urgency order frozen rows x l above off none = record {
     -- an active message is an item that is sent
     of_message : (values : List Bool) (i : Item) (e : ℕ) → i ≡ Message e → item_active g values i ≡ true →
         is_sent_item g i ≡ true
-    of_message values i f e h = subst (λ k. is_sent_item g k ≡ true) (sym e)
-        (and_parts (is_sent_item g (Message f)) _ (subst (λ k. item_active g values k ≡ true) e h)).0
+    of_message values i f is is_active = subst (λ k. is_sent_item g k ≡ true) (sym is)
+        (and_parts (is_sent_item g (Message f)) _ (subst (λ k. item_active g values k ≡ true) is is_active)).0
 
     -- an active broadcast is an item that is sent
     of_broadcast : (values : List Bool) (i : Item) (c : ℕ) → i ≡ Broadcast c → item_active g values i ≡ true →
         is_sent_item g i ≡ true
-    of_broadcast values i f e h = subst (λ k. is_sent_item g k ≡ true) (sym e)
-        (and_parts (is_sent_item g (Broadcast f)) _ (subst (λ k. item_active g values k ≡ true) e h)).0
+    of_broadcast values i f is is_active = subst (λ k. is_sent_item g k ≡ true) (sym is)
+        (and_parts (is_sent_item g (Broadcast f)) _ (subst (λ k. item_active g values k ≡ true) is is_active)).0

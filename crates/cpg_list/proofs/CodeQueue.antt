@@ -44,19 +44,22 @@ use Rattle.cpg_run.proofs.Sends.{Contains-take}
 module _ (g : Graph) (order : List ℕ) (node i y : ℕ) where
   -- the item is one of the graph, is sent by the node, and comes from a process before the place i
   record Stands : Type 0 where
+    -- the item is one of the graph
     within : Contains (numbers_below (item_count g)) y
+    -- it is sent, and by the node
     sent : is_sent g y ≡ true
     at : home g y ≡ node
+    -- its process comes before the place
     early : place order (producer g y) < i
 
   -- this holds of each item of the list `sent_before`
   stands : Contains (sent_before g order node i) y → Stands
-  stands j =
-      let r = Contains-filter_parts (λ y. is_sent g y && (home g y == node) && ltb (place order (producer g y)) i)
-      (numbers_below (item_count g)) y j in
-      let a = and_parts (is_sent g y && (home g y == node)) _ r.1 in
-      let b = and_parts (is_sent g y) _ a.0 in
-      record { within = r.0; sent = b.0; at = eqb-true _ _ b.1; early = ltb-true _ _ a.1 }
+  stands there =
+      let kept = Contains-filter_parts (λ y. is_sent g y && (home g y == node) && ltb (place order (producer g y)) i)
+      (numbers_below (item_count g)) y there in
+      let parts = and_parts (is_sent g y && (home g y == node)) _ kept.1 in
+      let sent_by_node = and_parts (is_sent g y) _ parts.0 in
+      record { within = kept.0; sent = sent_by_node.0; at = eqb-true _ _ sent_by_node.1; early = ltb-true _ _ parts.1 }
 
   -- each item of which `Stands` holds is in the list
   stood : Stands → Contains (sent_before g order node i) y
@@ -76,25 +79,26 @@ module _ (k : ℕ) (g : Graph) (order : List ℕ) (rows : List (List Column)) (s
       AreCubesOf k scenarios (queued_by g order rows ys) cubes
   queued_members xs ys to from are = record {
     count = are.count;
-    each = λ i d l. let f = queued g order rows (get_or scenarios i d) in
-        same_literals k (flat_map f xs) (flat_map f ys) (get_or cubes i []) (within_flat_map xs ys to f)
-        (within_flat_map ys xs from f) (are.each i d l);
+    each = λ i d l. let literals = queued g order rows (get_or scenarios i d) in
+        same_literals k (flat_map literals xs) (flat_map literals ys) (get_or cubes i [])
+        (within_flat_map xs ys to literals)
+        (within_flat_map ys xs from literals) (are.each i d l);
   }
 
 -- given: a process of the graph
-module _ (g : Graph) (order : List ℕ) (topological : IsTopological g order) (p : ℕ) (l : p < process_count g) where
+module _ (g : Graph) (order : List ℕ) (topological : IsTopological g order) (p : ℕ) (within : p < process_count g) where
   -- the process p is in the order
   in_order : Contains order p
-  in_order = Contains-order (process_count g) order topological.all p l
+  in_order = Contains-order (process_count g) order topological.all p within
 
   -- the producer of each item is in the order
   produced : (y : ℕ) → Contains (numbers_below (item_count g)) y → Contains order (producer g y)
-  produced y j = Contains-order (process_count g) order topological.all (producer g y)
-      (producer_in_range g order topological y (numbers-Contains (item_count g) y j))
+  produced y there = Contains-order (process_count g) order topological.all (producer g y)
+      (producer_in_range g order topological y (numbers-Contains (item_count g) y there))
 
   -- the start of p comes from the place of p
   pub start_by : place order (producer g p) ≡ place order p
-  start_by = ap (λ i. place order (producer_of_item g i)) (item_at-start g p l)
+  start_by = ap (λ i. place order (producer_of_item g i)) (item_at-start g p within)
 
   -- ---- the items before the m-th of those that a process sends
 
@@ -120,78 +124,88 @@ module _ (g : Graph) (order : List ℕ) (topological : IsTopological g order) (p
     -- places of producers, and for one producer by rank.
     pub before_to : (y : ℕ) → Contains (queued_before g order nth) y →
         Contains (sent_before g order (node_of g p) (place order p) ++ take m (queue_of g p)) y
-    before_to y j =
-        let r = Contains-filter_parts (λ y. is_queued_before g order y nth) (numbers_below (item_count g)) y j in
-        let a = and_parts (is_sent g y && (home g y == home g nth)) _ r.1 in
-        let b = and_parts (is_sent g y) _ a.0 in
-        let at : home g y ≡ node_of g p = eqb-true _ _ b.1 ∙ ap (node_of g) nth_by in
-        elim (or_cases (comes_before order (producer g y) (producer g nth)) _ a.1) [
+    before_to y queued =
+        let kept = Contains-filter_parts (λ y. is_queued_before g order y nth)
+        (numbers_below (item_count g)) y queued in
+        let parts = and_parts (is_sent g y && (home g y == home g nth)) _ kept.1 in
+        let sent_by_node = and_parts (is_sent g y) _ parts.0 in
+        let at : home g y ≡ node_of g p = eqb-true _ _ sent_by_node.1 ∙ ap (node_of g) nth_by in
+        elim (or_cases (comes_before order (producer g y) (producer g nth)) _ parts.1) [
           -- its producer comes before p, so it is sent before p's place
-          | inl c ↦ Contains-append_left (sent_before g order (node_of g p) (place order p)) (take m (queue_of g p)) y
+          | inl before_p ↦ Contains-append_left (sent_before g order (node_of g p) (place order p))
+              (take m (queue_of g p)) y
               (stood g order (node_of g p) (place order p) y (record {
-                within = r.0;
-                sent = b.0;
+                within = kept.0;
+                sent = sent_by_node.0;
                 at = at;
-                early = omega
-                    (arith, places_from_comes_before order (producer g y) (producer g nth) c, ap (place order) nth_by);
+                early = omega (
+                  arith,
+                  places_from_comes_before order (producer g y) (producer g nth) before_p,
+                  ap (place order) nth_by,
+                );
               }))
           -- p is its producer, and its rank is below that of the m-th item
-          | inr c ↦
-              let d = and_parts (producer g y == producer g nth) _ c in
-              let same : producer g y ≡ p = eqb-true _ _ d.0 ∙ nth_by in
+          | inr by_p ↦
+              let same_and_less = and_parts (producer g y == producer g nth) _ by_p in
+              let same : producer g y ≡ p = eqb-true _ _ same_and_less.0 ∙ nth_by in
               Contains-append_right (sent_before g order (node_of g p) (place order p)) (take m (queue_of g p)) y
               (in_first (rank_at g) (queue_of g p) (queue_rises g p) m inside y
-              (queue-Contains g p y (numbers-Contains (item_count g) y r.0) b.0 same) (ltb-true _ _ d.1))
+              (queue-Contains g p y (numbers-Contains (item_count g) y kept.0) sent_by_node.0 same)
+              (ltb-true _ _ same_and_less.1))
         ]
 
     -- the items of earlier processes of the node and the first m of p are before the m-th item
     pub before_from : (y : ℕ) →
         Contains (sent_before g order (node_of g p) (place order p) ++ take m (queue_of g p)) y →
         Contains (queued_before g order nth) y
-    before_from y j =
-        elim (Contains-append_cases (sent_before g order (node_of g p) (place order p)) (take m (queue_of g p)) y j) [
-          | inl i ↦
-              let h = stands g order (node_of g p) (place order p) y i in
+    before_from y there =
+        elim (Contains-append_cases (sent_before g order (node_of g p) (place order p))
+        (take m (queue_of g p)) y there) [
+          | inl of_earlier ↦
+              let item_stands = stands g order (node_of g p) (place order p) y of_earlier in
               Contains-filter (λ y. is_queued_before g order y nth) (numbers_below (item_count g)) y
-              (and_from _ _ (and_from _ _ h.sent (eq-eqb _ _ (h.at ∙ ap (node_of g) (sym nth_by))))
-              (or_left _ _ (comes_before_from_places order (producer g y) (producer g nth) (produced y h.within)
-              (omega (arith, h.early, ap (place order) nth_by))))) h.within
-          | inr i ↦
-              let q = in_queue g p y (Contains-take m (queue_of g p) y i) in
+              (and_from _ _ (and_from _ _ item_stands.sent (eq-eqb _ _ (item_stands.at ∙ ap (node_of g) (sym nth_by))))
+              (or_left _ _ (comes_before_from_places order (producer g y) (producer g nth)
+              (produced y item_stands.within)
+              (omega (arith, item_stands.early, ap (place order) nth_by))))) item_stands.within
+          | inr in_first ↦
+              let own_item = in_queue g p y (Contains-take m (queue_of g p) y in_first) in
               Contains-filter (λ y. is_queued_before g order y nth) (numbers_below (item_count g)) y
-              (and_from _ _ (and_from _ _ q.sent (eq-eqb _ _ (ap (node_of g) (q.by ∙ sym nth_by))))
-              (or_right _ _ (and_from _ _ (eq-eqb _ _ (q.by ∙ sym nth_by))
-              (lt-ltb _ _ (below_first (rank_at g) (queue_of g p) (queue_rises g p) m inside y i)))))
-              (Contains-numbers (item_count g) y q.within)
+              (and_from _ _ (and_from _ _ own_item.sent (eq-eqb _ _ (ap (node_of g) (own_item.by ∙ sym nth_by))))
+              (or_right _ _ (and_from _ _ (eq-eqb _ _ (own_item.by ∙ sym nth_by))
+              (lt-ltb _ _ (below_first (rank_at g) (queue_of g p) (queue_rises g p) m inside y in_first)))))
+              (Contains-numbers (item_count g) y own_item.within)
         ]
 
     -- each item before the m-th, and the m-th itself, comes from an earlier process or is one of the first m + 1 of p
     pub next_to : (y : ℕ) → Contains (queued_before g order nth ++ nth ∷ []) y →
         Contains (sent_before g order (node_of g p) (place order p) ++ take (m + 1) (queue_of g p)) y
-    next_to y j = subst (λ ys. Contains (sent_before g order (node_of g p) (place order p) ++ ys) y)
+    next_to y there = subst (λ ys. Contains (sent_before g order (node_of g p) (place order p) ++ ys) y)
         (sym (take_more (queue_of g p) m 0 inside))
         (subst (λ ys. Contains ys y)
         (append_assoc (sent_before g order (node_of g p) (place order p)) (take m (queue_of g p)) (nth ∷ []))
-        (elim (Contains-append_cases (queued_before g order nth) (nth ∷ []) y j) [
-          | inl i ↦ Contains-append_left (sent_before g order (node_of g p) (place order p) ++ take m (queue_of g p))
-              (nth ∷ []) y (before_to y i)
-          | inr i ↦ Contains-append_right (sent_before g order (node_of g p) (place order p) ++ take m (queue_of g p))
-              (nth ∷ []) y i
+        (elim (Contains-append_cases (queued_before g order nth) (nth ∷ []) y there) [
+          | inl among ↦ Contains-append_left (sent_before g order (node_of g p) (place order p)
+              ++ take m (queue_of g p))
+              (nth ∷ []) y (before_to y among)
+          | inr among ↦ Contains-append_right (sent_before g order (node_of g p) (place order p)
+              ++ take m (queue_of g p))
+              (nth ∷ []) y among
         ]))
 
     -- each of the items of earlier processes of the node and the first m + 1 of p is before the m-th item, or is that item
     pub next_from : (y : ℕ) →
         Contains (sent_before g order (node_of g p) (place order p) ++ take (m + 1) (queue_of g p)) y →
         Contains (queued_before g order nth ++ nth ∷ []) y
-    next_from y j =
-        let k = subst (λ ys. Contains ys y)
+    next_from y there =
+        let in_parts = subst (λ ys. Contains ys y)
         (sym (append_assoc (sent_before g order (node_of g p) (place order p)) (take m (queue_of g p)) (nth ∷ [])))
         (subst (λ ys. Contains (sent_before g order (node_of g p) (place order p) ++ ys) y)
-        (take_more (queue_of g p) m 0 inside) j) in
+        (take_more (queue_of g p) m 0 inside) there) in
         elim (Contains-append_cases (sent_before g order (node_of g p) (place order p) ++ take m (queue_of g p))
-        (nth ∷ []) y k) [
-          | inl i ↦ Contains-append_left (queued_before g order nth) (nth ∷ []) y (before_from y i)
-          | inr i ↦ Contains-append_right (queued_before g order nth) (nth ∷ []) y i
+        (nth ∷ []) y in_parts) [
+          | inl before ↦ Contains-append_left (queued_before g order nth) (nth ∷ []) y (before_from y before)
+          | inr here ↦ Contains-append_right (queued_before g order nth) (nth ∷ []) y here
         ]
 
     -- ---- the m-th item isn't made yet, and no item that is made comes from a later process
@@ -218,14 +232,14 @@ module _ (g : Graph) (order : List ℕ) (topological : IsTopological g order) (p
     -- the m-th item hasn't been made: it is from p, no start, and not among the first m of the queue
     pub nth_new : IsSent g order p m nth → ⊥
     nth_new (inl (inl h)) = omega (arith, h, ap (place order) nth_by)
-    nth_new (inl (inr e)) = omega (arith, e, l, (in_queue g p nth nth_queued).above)
+    nth_new (inl (inr e)) = omega (arith, e, within, (in_queue g p nth nth_queued).above)
     nth_new (inr c) = omega (arith, below_first (rank_at g) (queue_of g p) (queue_rises g p) m inside nth c)
 
     -- what was made so far, and the m-th item, are among what is made with the first m + 1 items
     pub sent_next : (y : ℕ) → IsSent g order p m y ⊎ (y ≡ nth) → IsSent g order p (m + 1) y
     sent_next y (inl (inl h)) = inl h
-    sent_next y (inl (inr c)) = inr (subst (λ ys. Contains ys y) (sym (take_more (queue_of g p) m 0 inside))
-        (Contains-append_left (take m (queue_of g p)) (nth ∷ []) y c))
+    sent_next y (inl (inr there)) = inr (subst (λ ys. Contains ys y) (sym (take_more (queue_of g p) m 0 inside))
+        (Contains-append_left (take m (queue_of g p)) (nth ∷ []) y there))
     sent_next y (inr e) = inr (subst (λ ys. Contains ys y) (sym (take_more (queue_of g p) m 0 inside))
         (Contains-append_right (take m (queue_of g p)) (nth ∷ []) y
         (subst (Contains (nth ∷ [])) (sym e) (Contains-first nth []))))
@@ -244,54 +258,73 @@ module _ (g : Graph) (order : List ℕ) (topological : IsTopological g order) (p
   -- before the first item of the process, the earlier ones and its start have been made
   pub sent_first : (y : ℕ) → IsSent g order p 0 y → IsStarted g order p y
   sent_first y (inl h) = h
-  sent_first y (inr c) = absurd (Contains-nil y c)
+  sent_first y (inr there) = absurd (Contains-nil y there)
 
   -- the items that the node sends for earlier processes, and all of p's queue, are among those it sends before the next place
   pub all_to : (y : ℕ) → Contains (sent_before g order (node_of g p) (place order p) ++ queue_of g p) y →
       Contains (sent_before g order (node_of g p) (place order p + 1)) y
-  all_to y j = elim (Contains-append_cases (sent_before g order (node_of g p) (place order p)) (queue_of g p) y j) [
-    | inl i ↦ let h = stands g order (node_of g p) (place order p) y i in
-        stood g order (node_of g p) (place order p + 1) y
-        (record { within = h.within; sent = h.sent; at = h.at; early = omega (arith, h.early) })
-    | inr i ↦ let q = in_queue g p y i in
-        stood g order (node_of g p) (place order p + 1) y
-        (record { within = Contains-numbers (item_count g) y q.within; sent = q.sent; at = ap (node_of g) q.by; early = omega (arith, ap (place order) q.by) })
-  ]
+  all_to y there = elim (Contains-append_cases (sent_before g order (node_of g p) (place order p))
+      (queue_of g p) y there) [
+        | inl of_earlier ↦ let item_stands = stands g order (node_of g p) (place order p) y of_earlier in
+            stood g order (node_of g p) (place order p + 1) y
+            (record {
+              within = item_stands.within;
+              sent = item_stands.sent;
+              at = item_stands.at;
+              early = omega (arith, item_stands.early);
+            })
+        | inr of_p ↦ let own_item = in_queue g p y of_p in
+            stood g order (node_of g p) (place order p + 1) y
+            (record {
+              within = Contains-numbers (item_count g) y own_item.within;
+              sent = own_item.sent;
+              at = ap (node_of g) own_item.by;
+              early = omega (arith, ap (place order) own_item.by);
+            })
+      ]
 
   -- what comes from a place before the next comes from an earlier process or from p
   by_place : (y : ℕ) → Contains (numbers_below (item_count g)) y → place order (producer g y) < place order p + 1 →
       (place order (producer g y) < place order p) ⊎ (producer g y ≡ p)
-  by_place y j h = elim (cases_lt (place order (producer g y)) (place order p)) [
+  by_place y there h = elim (cases_lt (place order (producer g y)) (place order p)) [
     | inl k ↦ inl k
-    | inr k ↦ inr (same_place order (producer g y) p (produced y j) in_order (omega (arith, h, k)))
+    | inr k ↦ inr (same_place order (producer g y) p (produced y there) in_order (omega (arith, h, k)))
   ]
 
   -- what the node sends before the next place is what it sends for earlier processes, or is in p's queue
   pub all_from : (y : ℕ) → Contains (sent_before g order (node_of g p) (place order p + 1)) y →
       Contains (sent_before g order (node_of g p) (place order p) ++ queue_of g p) y
-  all_from y j = let h = stands g order (node_of g p) (place order p + 1) y j in elim (by_place y h.within h.early) [
-    | inl k ↦ Contains-append_left (sent_before g order (node_of g p) (place order p)) (queue_of g p) y
-        (stood g order (node_of g p) (place order p) y
-        (record { within = h.within; sent = h.sent; at = h.at; early = k }))
-    | inr e ↦ Contains-append_right (sent_before g order (node_of g p) (place order p)) (queue_of g p) y
-        (queue-Contains g p y (numbers-Contains (item_count g) y h.within) h.sent e)
-  ]
+  all_from y there = let item_stands = stands g order (node_of g p) (place order p + 1) y there in
+      elim (by_place y item_stands.within item_stands.early) [
+        | inl earlier ↦ Contains-append_left (sent_before g order (node_of g p) (place order p)) (queue_of g p) y
+            (stood g order (node_of g p) (place order p) y
+            (record { within = item_stands.within; sent = item_stands.sent; at = item_stands.at; early = earlier }))
+        | inr by_p ↦ Contains-append_right (sent_before g order (node_of g p) (place order p)) (queue_of g p) y
+            (queue-Contains g p y (numbers-Contains (item_count g) y item_stands.within) item_stands.sent by_p)
+      ]
 
   -- what another node sends before the place of p it sends before the next place too
   pub other_to : (node : ℕ) (y : ℕ) → Contains (sent_before g order node (place order p)) y →
       Contains (sent_before g order node (place order p + 1)) y
-  other_to node y j = let h = stands g order node (place order p) y j in
+  other_to node y there = let item_stands = stands g order node (place order p) y there in
       stood g order node (place order p + 1) y
-      (record { within = h.within; sent = h.sent; at = h.at; early = omega (arith, h.early) })
+      (record {
+        within = item_stands.within;
+        sent = item_stands.sent;
+        at = item_stands.at;
+        early = omega (arith, item_stands.early);
+      })
 
   -- another node sends no more before the next place than before the place of p, as p sends on its own node alone
   pub other_from : (node : ℕ) → node ≢ node_of g p → (y : ℕ) →
       Contains (sent_before g order node (place order p + 1)) y →
       Contains (sent_before g order node (place order p)) y
-  other_from node n y j = let h = stands g order node (place order p + 1) y j in elim (by_place y h.within h.early) [
-    | inl k ↦ stood g order node (place order p) y (record { within = h.within; sent = h.sent; at = h.at; early = k })
-    | inr e ↦ absurd (n (sym h.at ∙ ap (node_of g) e))
-  ]
+  other_from node elsewhere y there = let item_stands = stands g order node (place order p + 1) y there in
+      elim (by_place y item_stands.within item_stands.early) [
+        | inl earlier ↦ stood g order node (place order p) y
+            (record { within = item_stands.within; sent = item_stands.sent; at = item_stands.at; early = earlier })
+        | inr by_p ↦ absurd (elsewhere (sym item_stands.at ∙ ap (node_of g) by_p))
+      ]
 
   -- ---- once the queue of p is made, all before the next place is
 
@@ -302,12 +335,12 @@ module _ (g : Graph) (order : List ℕ) (topological : IsTopological g order) (p
       AreMade g urgency order frozen (IsBefore g order (place order p + 1)) rows
   made_next urgency frozen rows are = record {
     items = are.items;
-    each = λ x m h. elim (by_place x (Contains-numbers (item_count g) x m) h) [
-      | inl k ↦ are.each x m (inl (inl k))
-      | inr e ↦ elim (item_cases g x m) [
-        | inl c ↦ are.each x m (inl (inr (sym (ap (producer_of_item g) c.1) ∙ e)))
-        | inr (inl c) ↦ of_sent x m e (omega (arith, c.2)) (are.each x m) (are.none x)
-        | inr (inr c) ↦ of_sent x m e (omega (arith, c.2)) (are.each x m) (are.none x)
+    each = λ x inside h. elim (by_place x (Contains-numbers (item_count g) x inside) h) [
+      | inl k ↦ are.each x inside (inl (inl k))
+      | inr is ↦ elim (item_cases g x inside) [
+        | inl c ↦ are.each x inside (inl (inr (sym (ap (producer_of_item g) c.1) ∙ is)))
+        | inr (inl c) ↦ of_sent x inside is (omega (arith, c.2)) (are.each x inside) (are.none x)
+        | inr (inr c) ↦ of_sent x inside is (omega (arith, c.2)) (are.each x inside) (are.none x)
       ]
     ];
     none = λ x other. are.none x (λ h. other (below x h));
@@ -324,20 +357,22 @@ module _ (g : Graph) (order : List ℕ) (topological : IsTopological g order) (p
 
       -- An item of the process other than its start: if it is sent, it is in the queue, so it has been made. If it is
       -- not sent, its row is empty, as it should be.
-      of_sent : (x : ℕ) (m : x < item_count g) → producer g x ≡ p → process_count g ≤ x →
+      of_sent : (x : ℕ) (below : x < item_count g) → producer g x ≡ p → process_count g ≤ x →
           (IsSent g order p (length (queue_of g p)) x → IsRowOf g urgency order frozen (columns_of_rows rows) x)
           → ((IsSent g order p (length (queue_of g p)) x → ⊥) → row_at (columns_of_rows rows) x ≡ []) →
           IsRowOf g urgency order frozen (columns_of_rows rows) x
-      of_sent x m e above is none = elim (cases_Bool (is_sent g x)) [
+      of_sent x inside same above is none = elim (cases_Bool (is_sent g x)) [
         | inl on ↦ is (inr (subst (λ ys. Contains ys x)
-            (sym (take_all (length (queue_of g p)) (queue_of g p) (omega arith))) (queue-Contains g p x m on e)))
-        | inr off ↦ unsent_row g urgency order frozen (columns_of_rows rows) x m above off (none (λ h. not_sent off h))
+            (sym (take_all (length (queue_of g p)) (queue_of g p) (omega arith)))
+            (queue-Contains g p x inside on same)))
+        | inr off ↦ unsent_row g urgency order frozen (columns_of_rows rows) x inside above off
+            (none (λ h. not_sent off h))
       ]
         where
           -- an item that isn't sent is not among those that have been made
           not_sent : is_sent g x ≡ false → IsSent g order p (length (queue_of g p)) x → ⊥
-          not_sent off (inl (inl h)) = omega (arith, h, ap (place order) e)
-          not_sent off (inl (inr same)) = omega (arith, same, l, above)
+          not_sent off (inl (inl h)) = omega (arith, h, ap (place order) same)
+          not_sent off (inl (inr alike)) = omega (arith, alike, within, above)
           not_sent off (inr c) = both_ways (is_sent g x) off
               ((in_queue g p x (Contains-take (length (queue_of g p)) (queue_of g p) x c)).sent)
 
@@ -363,35 +398,36 @@ module _ (g : Graph) (order : List ℕ) (topological : IsTopological g order) (p
   -- on another node the processes before the next place are those before the place of p
   pub node_other : (node : ℕ) → node ≢ node_of g p →
       node_before g order node (place order p + 1) ≡ node_before g order node (place order p)
-  node_other node n = split node ∙ ap (λ qs. node_before g order node (place order p) ++ qs)
-      (cond-false _ _ _ (ne_eqb (node_of g p) node (λ e. n (sym e)))) ∙
+  node_other node differ = split node ∙ ap (λ qs. node_before g order node (place order p) ++ qs)
+      (cond-false _ _ _ (ne_eqb (node_of g p) node (λ e. differ (sym e)))) ∙
       append-nil (node_before g order node (place order p))
 
   -- no process of a node before the place of p is later than p
   node_early : (node q : ℕ) → Contains (node_before g order node (place order p)) q → place order q ≤ place order p
-  node_early node q j =
-      let r = Contains-filter_parts (λ q. node_of g q == node) (take (place order p) order) q j in
-      omega (arith, (from_before order q p r.0).1)
+  node_early node q there =
+      let kept = Contains-filter_parts (λ q. node_of g q == node) (take (place order p) order) q there in
+      omega (arith, (from_before order q p kept.0).1)
 
   -- the processes of the node up to this one are no later than it
   pub own_early : (q : ℕ) → Contains (before_on_node g order p ++ p ∷ []) q → place order q ≤ place order p
-  own_early q j = elim (Contains-append_cases (before_on_node g order p) (p ∷ []) q j) [
-    | inl i ↦ node_early (node_of g p) q i
+  own_early q there = elim (Contains-append_cases (before_on_node g order p) (p ∷ []) q there) [
+    | inl among ↦ node_early (node_of g p) q among
     | inr i ↦ omega (arith, ap (place order) (only_one p q i))
   ]
 
   -- no item that a node sends before the place of p comes from a later process than p
   pub sent_early : (node y : ℕ) → Contains (sent_before g order node (place order p)) y →
       place order (producer g y) ≤ place order p
-  sent_early node y j = let h = stands g order node (place order p) y j in omega (arith, h.early)
+  sent_early node y there = let item_stands = stands g order node (place order p) y there in
+      omega (arith, item_stands.early)
 
   -- no item that the node of p sends before the place of p, and none of the first m items of p, comes from a later process
   pub queue_early : (m y : ℕ) →
       Contains (sent_before g order (node_of g p) (place order p) ++ take m (queue_of g p)) y →
       place order (producer g y) ≤ place order p
-  queue_early m y j =
-      elim (Contains-append_cases (sent_before g order (node_of g p) (place order p)) (take m (queue_of g p)) y j) [
-        | inl i ↦ sent_early (node_of g p) y i
+  queue_early m y there =
+      elim (Contains-append_cases (sent_before g order (node_of g p) (place order p)) (take m (queue_of g p)) y there) [
+        | inl among ↦ sent_early (node_of g p) y among
         | inr i ↦ omega (arith, ap (place order) (in_queue g p y (Contains-take m (queue_of g p) y i)).by)
       ]
 
@@ -423,11 +459,11 @@ module _ (g : Graph) (order : List ℕ) (topological : IsTopological g order) (p
             (sym (get_or-set_same known (node_of g p) own [] (omega (arith, on, are.known_count))))
             (subst (λ qs. AreCubesOf g.faults scenarios (passed_by g others qs) own) (sym node_own) own_are))
         -- another node: what it carries is as it was
-        | inr n ↦
+        | inr differ ↦
             subst (AreCubesOf g.faults scenarios (passed_by g others (node_before g order node (place order p + 1))))
-            (sym (get_or-set_other known (node_of g p) node own [] n))
+            (sym (get_or-set_other known (node_of g p) node own [] differ))
             (subst (λ qs. AreCubesOf g.faults scenarios (passed_by g others qs) (get_or known node []))
-            (sym (node_other node n))
+            (sym (node_other node differ))
             (passed_cubes g order topological rows others (place order p) same g.faults scenarios (get_or known node [])
             (node_before g order node (place order p)) (node_early node)
             (are.carries node h)))
@@ -440,12 +476,12 @@ module _ (g : Graph) (order : List ℕ) (topological : IsTopological g order) (p
             (queued_by g order others (sent_before g order (node_of g p) (place order p + 1))))
             (sym (get_or-set_same sent (node_of g p) queue [] (omega (arith, on, are.sent_count)))) queue_are)
         -- another node: its queue is as it was
-        | inr n ↦ subst
+        | inr differ ↦ subst
             (AreCubesOf g.faults scenarios (queued_by g order others (sent_before g order node (place order p + 1))))
-            (sym (get_or-set_other sent (node_of g p) node queue [] n))
+            (sym (get_or-set_other sent (node_of g p) node queue [] differ))
             (queued_members g.faults g order others scenarios (get_or sent node []) (sent_before g order node
             (place order p)) (sent_before g order node (place order p + 1)) (other_to node)
-            (other_from node n)
+            (other_from node differ)
             (queued_cubes g order topological rows others (place order p) same g.faults scenarios (get_or sent node [])
             (sent_before g order node (place order p)) (sent_early node)
             (are.queues node h)))
@@ -470,18 +506,20 @@ module _ (g : Graph) (order : List ℕ) (rows : List (List Column)) (scenarios :
   ends_plain plain are = record {
     count = are.count;
     each = λ i d l on.
-        let s = get_or scenarios i d in
-        let f = passed g rows s in
-        let earlier = flat_map f (before_on_node g order p) in
-        let e : flat_map f (before_on_node g order p ++ p ∷ []) ≡ carried_at_end g order rows s p =
-        sym (flat_map_push f (before_on_node g order p) p)
+        let scenario = get_or scenarios i d in
+        let passed_on = passed g rows scenario in
+        let earlier = flat_map passed_on (before_on_node g order p) in
+        let same : flat_map passed_on (before_on_node g order p ++ p ∷ []) ≡ carried_at_end g order rows scenario p =
+        sym (flat_map_push passed_on (before_on_node g order p) p)
         ∙ ap (λ ls. earlier ++ ls)
-        (passed_active g rows s p on ∙ ap (λ ls. decided g s p ++ heard g rows s p ++ (ls ++ number_known s p ∷ []))
-        (received_plain g rows s p plain))
-        ∙ regroup earlier (decided g s p) (heard g rows s p) (received g rows s p) (number_known s p ∷ [])
-        ∙ ap (λ ls. ls ++ number_known s p ∷ []) (sym (cond-false (process_at g p).frozen (decided g s p)
-        (earlier ++ decided g s p ++ heard g rows s p ++ received g rows s p) plain)) in
-        subst (λ ls. IsCubeOf g.faults ls (get_or cubes i [])) e (are.each i d l);
+        (passed_active g rows scenario p on
+        ∙ ap (λ ls. decided g scenario p ++ heard g rows scenario p ++ (ls ++ number_known scenario p ∷ []))
+        (received_plain g rows scenario p plain))
+        ∙ regroup earlier (decided g scenario p) (heard g rows scenario p) (received g rows scenario p)
+        (number_known scenario p ∷ [])
+        ∙ ap (λ ls. ls ++ number_known scenario p ∷ []) (sym (cond-false (process_at g p).frozen (decided g scenario p)
+        (earlier ++ decided g scenario p ++ heard g rows scenario p ++ received g rows scenario p) plain)) in
+        subst (λ ls. IsCubeOf g.faults ls (get_or cubes i [])) same (are.each i d l);
   }
 
   -- at the end of a frozen process, only what decides it and its count are carried
@@ -491,7 +529,7 @@ module _ (g : Graph) (order : List ℕ) (rows : List (List Column)) (scenarios :
   ends_frozen frozen are = record {
     count = are.count;
     each = λ i d l on.
-        let s = get_or scenarios i d in
-        subst (λ ls. IsCubeOf g.faults (ls ++ number_known s p ∷ []) (get_or cubes i []))
-        (sym (cond-true (process_at g p).frozen (decided g s p) _ frozen)) (are.each i d l);
+        let scenario = get_or scenarios i d in
+        subst (λ ls. IsCubeOf g.faults (ls ++ number_known scenario p ∷ []) (get_or cubes i []))
+        (sym (cond-true (process_at g p).frozen (decided g scenario p) _ frozen)) (are.each i d l);
   }

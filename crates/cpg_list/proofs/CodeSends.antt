@@ -47,10 +47,10 @@ pub value_of : (g : Graph) (x e p : ℕ) → item_at g x ≡ Message e → sourc
     (o : Option ℕ) → condition_of g p ≡ o →
     IsSentValue g x o
 value_of g x e p at from on o is =
-    let v : sent_value g (item_at g x) ≡ map value_variable (option_to_list o) = ap (sent_value g) at
+    let value_is : sent_value g (item_at g x) ≡ map value_variable (option_to_list o) = ap (sent_value g) at
     ∙ cond-true _ _ _ on ∙ ap (λ q. map value_variable (option_to_list (condition_of g q))) from ∙
     ap (λ r. map value_variable (option_to_list r)) is in
-    by_option o is v
+    by_option o is value_is
   where
     -- by whether the source has a condition: without one no value decides
     by_option : (o : Option ℕ) → condition_of g p ≡ o →
@@ -75,51 +75,56 @@ module _ (g : Graph) (s : Scenario) (p x : ℕ) (by : producer g x ≡ p) (ends 
   -- an item whose producer is inactive leaves only what decides the producer
   pub left_idle : active g s.values p ≡ false → item_active g s.values (item_at g x) ≡ false →
       queued_after g s x ends ≡ decided g s p
-  left_idle a i = left false false a (ap (λ b. b && not (is_frozen g x)) i) ∙ append-nil (decided g s p ++ [])
+  left_idle is_idle i = left false false is_idle (ap (λ b. b && not (is_frozen g x)) i)
+      ∙ append-nil (decided g s p ++ [])
       ∙ append-nil (decided g s p)
 
   -- an inactive item of an active producer also leaves the value that decides whether it is sent
   pub left_skipped : active g s.values p ≡ true → item_active g s.values (item_at g x) ≡ false →
       queued_after g s x ends ≡ decided g s p ++ sent_by_value g s x
-  left_skipped a i =
-      left true false a (ap (λ b. b && not (is_frozen g x)) i) ∙ append-nil (decided g s p ++ sent_by_value g s x)
+  left_skipped is_active is_idle =
+      left true false is_active (ap (λ b. b && not (is_frozen g x)) is_idle)
+      ∙ append-nil (decided g s p ++ sent_by_value g s x)
 
   -- a frozen item that is sent leaves only what decides its producer and the value by which it is sent
   pub left_frozen : active g s.values p ≡ true → item_active g s.values (item_at g x) ≡ true → is_frozen g x ≡ true →
       queued_after g s x ends ≡ decided g s p ++ sent_by_value g s x
-  left_frozen a i f =
-      left true false a (ap₂ (λ b c. b && not c) i f) ∙ append-nil (decided g s p ++ sent_by_value g s x)
+  left_frozen is is_active it_is_frozen =
+      left true false is (ap₂ (λ b c. b && not c) is_active it_is_frozen)
+      ∙ append-nil (decided g s p ++ sent_by_value g s x)
 
   -- an item that is sent and isn't frozen also leaves what is carried at the end of its producer
   pub left_plain : active g s.values p ≡ true → item_active g s.values (item_at g x) ≡ true → is_frozen g x ≡ false →
       queued_after g s x ends ≡ decided g s p ++ sent_by_value g s x ++ ends
-  left_plain a i f = left true true a (ap₂ (λ b c. b && not c) i f)
+  left_plain is_active i f = left true true is_active (ap₂ (λ b c. b && not c) i f)
 
   -- beside a frozen send only what decides the producer and the sending is carried
   pub sends_frozen : (queue : List Literal) → is_frozen g x ≡ true →
       send_after g s x queue ends ≡ decided g s p ++ sent_by_value g s x
-  sends_frozen queue f = ap (λ q. (if is_frozen g x then decided g s q else queue ++ ends) ++ sent_by_value g s x) by ∙
-      ap (λ ls. ls ++ sent_by_value g s x) (cond-true (is_frozen g x) (decided g s p) (queue ++ ends) f)
+  sends_frozen queue it_is_frozen = ap (λ q. (if is_frozen g x then decided g s q else queue ++ ends)
+      ++ sent_by_value g s x) by ∙
+      ap (λ ls. ls ++ sent_by_value g s x) (cond-true (is_frozen g x) (decided g s p) (queue ++ ends) it_is_frozen)
 
   -- beside another send, what the queue leaves and the end of the producer are carried, too
   pub sends_plain : (queue : List Literal) → is_frozen g x ≡ false →
       send_after g s x queue ends ≡ queue ++ ends ++ sent_by_value g s x
-  sends_plain queue f =
-      ap (λ ls. ls ++ sent_by_value g s x) (cond-false (is_frozen g x) (decided g s (producer g x)) (queue ++ ends) f)
+  sends_plain queue fails =
+      ap (λ ls. ls ++ sent_by_value g s x)
+      (cond-false (is_frozen g x) (decided g s (producer g x)) (queue ++ ends) fails)
 
 -- if the literals `ds` are among `es`, a cube narrowed by `es` and `vs` is narrowed by `ds`, `vs` and `es`
 pub end_with_value : (k : ℕ) (ds vs es a b : List Literal) → Within ds es → IsNarrowed k (es ++ vs) a b →
     IsNarrowed k (ds ++ vs ++ es) a b
 end_with_value k ds vs es a b in_ends is = narrowed_same k (es ++ vs) (ds ++ vs ++ es) a b
-    (λ l j. elim (Contains-append_cases es vs l j) [
-      | inl i ↦ Contains-append_right (ds ++ vs) es l i
-      | inr i ↦ Contains-append_left (ds ++ vs) es l (Contains-append_right ds vs l i)
+    (λ l there. elim (Contains-append_cases es vs l there) [
+      | inl among ↦ Contains-append_right (ds ++ vs) es l among
+      | inr among ↦ Contains-append_left (ds ++ vs) es l (Contains-append_right ds vs l among)
     ])
-    (λ l j. elim (Contains-append_cases (ds ++ vs) es l j) [
-      | inr i ↦ Contains-append_left es vs l i
-      | inl i ↦ elim (Contains-append_cases ds vs l i) [
+    (λ l there. elim (Contains-append_cases (ds ++ vs) es l there) [
+      | inr among ↦ Contains-append_left es vs l among
+      | inl in_first ↦ elim (Contains-append_cases ds vs l in_first) [
         | inl d ↦ Contains-append_left es vs l (in_ends l d)
-        | inr v ↦ Contains-append_right es vs l v
+        | inr in_second ↦ Contains-append_right es vs l in_second
       ]
     ]) is
 
@@ -131,12 +136,14 @@ module _ (g : Graph) (order : List ℕ) (rows : List (List Column)) (s : Scenari
   -- what is carried beside the item x is `send_after` of what the queue before it leaves and what is carried at the end of p
   pub carried_send : carried g order rows s x
       ≡ send_after g s x (queued_by g order rows (queued_before g order x) s) (carried_at_end g order rows s p)
-  carried_send = let q = in_queue g p x queued_here in elim (item_cases g x q.within) [
-    | inl c ↦ absurd (omega (arith, c.0, q.above))
+  carried_send = let own_item = in_queue g p x queued_here in elim (item_cases g x own_item.within) [
+    | inl c ↦ absurd (omega (arith, c.0, own_item.above))
     | inr (inl c) ↦ ap (carried_by_item g order rows s x) c.3 ∙ ap (λ r.
-        send_after g s x (queued_by g order rows (queued_before g order x) s) (carried_at_end g order rows s r)) q.by
+        send_after g s x (queued_by g order rows (queued_before g order x) s)
+        (carried_at_end g order rows s r)) own_item.by
     | inr (inr c) ↦ ap (carried_by_item g order rows s x) c.3 ∙ ap (λ r.
-        send_after g s x (queued_by g order rows (queued_before g order x) s) (carried_at_end g order rows s r)) q.by
+        send_after g s x (queued_by g order rows (queued_before g order x) s)
+        (carried_at_end g order rows s r)) own_item.by
   ]
 
   -- what the item x leaves in the queue is `queued_after` of what is carried at the end of p
@@ -146,16 +153,17 @@ module _ (g : Graph) (order : List ℕ) (rows : List (List Column)) (s : Scenari
 -- what decides a process is carried at its end: it is part of what is carried at the start, frozen or not
 pub decided_at_end : (g : Graph) (order : List ℕ) (rows : List (List Column)) (s : Scenario) (p : ℕ) →
     Within (decided g s p) (carried_at_end g order rows s p)
-decided_at_end g order rows s p l j = Contains-append_left (carried_at_start g order rows s p) (number_known s p ∷ []) l
+decided_at_end g order rows s p l there = Contains-append_left (carried_at_start g order rows s p)
+    (number_known s p ∷ []) l
     (elim (cases_Bool (process_at g p).frozen) [
-      | inl on ↦ subst (λ ls. Contains ls l) (sym (cond-true _ _ _ on)) j
+      | inl on ↦ subst (λ ls. Contains ls l) (sym (cond-true _ _ _ on)) there
       | inr off ↦ subst (λ ls. Contains ls l) (sym (cond-false _ _ _ off))
           (Contains-append_left (flat_map (passed g rows s) (before_on_node g order p) ++ decided g s p
           ++ heard g rows s p)
           (received g rows s p) l
           (Contains-append_left (flat_map (passed g rows s) (before_on_node g order p) ++ decided g s p)
           (heard g rows s p) l
-          (Contains-append_right (flat_map (passed g rows s) (before_on_node g order p)) (decided g s p) l j)))
+          (Contains-append_right (flat_map (passed g rows s) (before_on_node g order p)) (decided g s p) l there)))
     ])
 
 -- the cube at the place n of the ends of p is that of its end in the n-th scenario

@@ -47,24 +47,24 @@ kept_of g s time literals cube is (Some e) h =
 -- a cube without literals, narrowed by literals, is their cube
 pub from_whole : (k : ℕ) (literals whole cube : List Literal) → whole ≡ [] → IsNarrowed k literals whole cube →
     IsCubeOf k literals cube
-from_whole k literals whole cube e n = n.by [] (subst (IsCubeOf k []) (sym e) (whole_cube k))
+from_whole k literals whole cube is narrowed = narrowed.by [] (subst (IsCubeOf k []) (sym is) (whole_cube k))
 
 -- ---- one start
 
 -- the start of a process is frozen exactly if the process is
 pub frozen_start : (g : Graph) (p : ℕ) → p < process_count g → is_frozen g p ≡ (process_at g p).frozen
-frozen_start g p l = ap (is_frozen_item g) (item_at-start g p l)
+frozen_start g p within = ap (is_frozen_item g) (item_at-start g p within)
 
 -- given: the rows so far, a scenario s, and a process p
 module _ (g : Graph) (rows : List (List Column)) (s : Scenario) (p : ℕ) where
   -- beside the start of a process that isn't frozen, all is carried that its node has learnt
   pub start_plain : (earlier : List Literal) → (process_at g p).frozen ≡ false →
       start_after g rows s p earlier ≡ earlier ++ decided g s p ++ heard g rows s p ++ received g rows s p
-  start_plain earlier e = cond-false _ _ _ e
+  start_plain earlier fails = cond-false _ _ _ fails
 
   -- a process that isn't frozen counts what it receives
   pub received_plain : (process_at g p).frozen ≡ false → received_unless_frozen g rows s p ≡ received g rows s p
-  received_plain e = cond-false _ _ _ e
+  received_plain fails = cond-false _ _ _ fails
 
   -- an inactive process passes on what decides it and what its node heard
   pub passed_idle : active g s.values p ≡ false → passed g rows s p ≡ decided g s p ++ heard g rows s p
@@ -82,7 +82,7 @@ module _ (g : Graph) (rows : List (List Column)) (s : Scenario) (p : ℕ) where
   -- a process has a time exactly if it is active
   pub process_active : p < process_count g → (t : Times) → IsTimedIfActive g s t p →
       is_some (get_or t.times p None) ≡ active g s.values p
-  process_active l t timed = timed ∙ ap (item_active g s.values) (item_at-start g p l)
+  process_active within t timed = timed ∙ ap (item_active g s.values) (item_at-start g p within)
 
 -- ---- the entries of one scenario more
 
@@ -98,31 +98,31 @@ module _ (g : Graph) (order : List ℕ) (topological : IsTopological g order) (f
       IsEntryAt g s o (carried g order rows s x) r
       → AreEntriesAmong g order frozen rows x (done ++ s ∷ []) (entries ++ option_to_list r)
   -- the item is inactive
-  entry_at None at off r e =
-      subst (λ es. AreEntriesAmong g order frozen rows x (done ++ s ∷ []) (entries ++ option_to_list es)) (sym e)
+  entry_at None at off r entry_is =
+      subst (λ es. AreEntriesAmong g order frozen rows x (done ++ s ∷ []) (entries ++ option_to_list es)) (sym entry_is)
       (subst (AreEntriesAmong g order frozen rows x (done ++ s ∷ [])) (sym (append-nil entries))
       (passed_inactive g order frozen rows x done entries so_far s (sym off)))
   -- the scenario isn't the least of its cube
-  entry_at (Some time) at on None h =
+  entry_at (Some time) at on None entry_is =
       subst (AreEntriesAmong g order frozen rows x (done ++ s ∷ [])) (sym (append-nil entries))
       (let literals = carried g order rows s x in
       let cube = cube_of g.faults literals in
       let is = cube_there g.faults literals in
-      passed_other g order frozen rows x done entries so_far s cube is (h cube is))
+      passed_other g order frozen rows x done entries so_far s cube is (entry_is cube is))
   -- the scenario is the least of its cube
-  entry_at (Some time) at on (Some e) h = taken g order frozen rows x done entries so_far s e (record {
+  entry_at (Some time) at on (Some e) entry_is = taken g order frozen rows x done entries so_far s e (record {
     lawful = law;
     active = sym on;
     time = λ u other. ap (λ (w : Times). get_or w.times x None) (run_unique g order topological frozen s u t other run)
-        ∙ at ∙ ap Some (sym h.0);
-    cube = h.1;
-  }) h.2 new
+        ∙ at ∙ ap Some (sym entry_is.0);
+    cube = entry_is.1;
+  }) entry_is.2 new
 
   -- the entry of the item at its time in the run is added, if there is one; an item without a time has none
   pub one_more : IsTimedIfActive g s t x → (r : Option Column) →
       IsEntryAt g s (get_or t.times x None) (carried g order rows s x) r →
       AreEntriesAmong g order frozen rows x (done ++ s ∷ []) (entries ++ option_to_list r)
-  one_more timed r h = entry_at (get_or t.times x None) refl timed r h
+  one_more timed r entry_is = entry_at (get_or t.times x None) refl timed r entry_is
 
 -- ---- the cubes of one scenario more
 
@@ -138,20 +138,24 @@ module _ (k : ℕ) (scenarios : List Scenario) (before literals : Scenario → L
   pub all_done : (n : ℕ) (cubes : List (List Literal)) → length scenarios ≤ n →
       AreCubesUpTo k scenarios before literals n cubes →
       AreCubesOf k scenarios literals cubes
-  all_done n cubes h are = record { count = are.count; each = λ i s l. are.done i s (omega (arith, h, l)) l }
+  all_done n cubes at_most are = record {
+    count = are.count;
+    each = λ i s l. are.done i s
+        (omega (arith, at_most, l)) l;
+  }
 
   -- with the cube of the n-th scenario replaced by that of its new literals, n + 1 are done, and the others stay
   pub one_done : (n : ℕ) (cubes : List (List Literal)) (s : Scenario) (cube : List Literal) → n < length scenarios →
       AreCubesUpTo k scenarios before literals n cubes →
       s ≡ get_or scenarios n s
       → IsCubeOf k (literals s) cube → AreCubesUpTo k scenarios before literals (n + 1) (set cubes n cube)
-  one_done n cubes s cube l are at is = record {
+  one_done n cubes s cube within are at is = record {
     count = length-set cubes n cube ∙ are.count;
     done = λ i d h m. elim (cases_eq i n) [
       | inl e ↦ subst (λ j. IsCubeOf k (literals (get_or scenarios j d)) (get_or (set cubes n cube) j [])) (sym e)
           (subst (IsCubeOf k (literals (get_or scenarios n d)))
-          (sym (get_or-set_same cubes n cube [] (omega (arith, l, are.count))))
-          (subst (λ u. IsCubeOf k (literals u) cube) (at ∙ get_or_default scenarios n s d l) is))
+          (sym (get_or-set_same cubes n cube [] (omega (arith, within, are.count))))
+          (subst (λ u. IsCubeOf k (literals u) cube) (at ∙ get_or_default scenarios n s d within) is))
       | inr other ↦ subst (IsCubeOf k (literals (get_or scenarios i d)))
           (sym (get_or-set_other cubes n i cube [] other)) (are.done i d (omega (arith, h, other)) m)
     ];
@@ -164,7 +168,7 @@ module _ (k : ℕ) (scenarios : List Scenario) (before literals : Scenario → L
 pub next_scenario : (scenarios : List Scenario) (n : ℕ) (s : Scenario) → n < length scenarios →
     s ≡ get_or scenarios n s →
     take (n + 1) scenarios ≡ take n scenarios ++ s ∷ []
-next_scenario scenarios n s l at = take_more scenarios n s l ∙ ap (λ u. take n scenarios ++ u ∷ []) (sym at)
+next_scenario scenarios n s within at = take_more scenarios n s within ∙ ap (λ u. take n scenarios ++ u ∷ []) (sym at)
 
 -- if the first n cubes are those of the first n scenarios and that of the n-th is added, the first n + 1 are
 pub push_cube : (k : ℕ) (scenarios : List Scenario) (literals : Scenario → List Literal) (n : ℕ)
@@ -174,12 +178,12 @@ pub push_cube : (k : ℕ) (scenarios : List Scenario) (literals : Scenario → L
     → ((i : ℕ) (d : Scenario) → i < n → IsCubeOf k (literals (get_or scenarios i d)) (get_or cubes i [])) →
     new ≡ cubes ++ cube ∷ [] → s ≡ get_or scenarios n s → IsCubeOf k (literals s) cube
     → (i : ℕ) (d : Scenario) → i < n + 1 → IsCubeOf k (literals (get_or scenarios i d)) (get_or new i [])
-push_cube k scenarios literals n cubes new s cube l long each pushed at is i d h =
+push_cube k scenarios literals n cubes new s cube within long each pushed at is i d h =
     subst (λ cs. IsCubeOf k (literals (get_or scenarios i d)) (get_or cs i [])) (sym pushed) (elim (cases_eq i n) [
       | inl e ↦ subst (λ j. IsCubeOf k (literals (get_or scenarios j d)) (get_or (cubes ++ cube ∷ []) j [])) (sym e)
           (subst (IsCubeOf k (literals (get_or scenarios n d)))
           (sym (ap (λ j. get_or (cubes ++ cube ∷ []) j []) (sym long) ∙ get_or-append_seam cubes cube [] []))
-          (subst (λ u. IsCubeOf k (literals u) cube) (at ∙ get_or_default scenarios n s d l) is))
+          (subst (λ u. IsCubeOf k (literals u) cube) (at ∙ get_or_default scenarios n s d within) is))
       | inr other ↦ subst (IsCubeOf k (literals (get_or scenarios i d)))
           (sym (get_or-append cubes (cube ∷ []) [] i (omega (arith, h, other, long))))
           (each i d (omega (arith, h, other)))
@@ -192,8 +196,8 @@ module _ (g : Graph) (order : List ℕ) (frozen : List (Option ℕ)) where
   -- in a run, an item has a time exactly if it is active
   pub timed_if_active : (s : Scenario) (t : Times) → IsRun g order frozen s t → (x : ℕ) → x < item_count g →
       IsTimedIfActive g s t x
-  timed_if_active s t run x l =
-      ap is_some (time_is g order frozen s t run x l) ∙ go (item_active g s.values (item_at g x))
+  timed_if_active s t run x within =
+      ap is_some (time_is g order frozen s t run x within) ∙ go (item_active g s.values (item_at g x))
       (greatest (unfrozen_time g order s t x ∷ option_to_list (get_or frozen x None)))
     where
       -- an option that is there only if b is true is there exactly if b is true
@@ -206,24 +210,25 @@ module _ (g : Graph) (order : List ℕ) (frozen : List (Option ℕ)) where
       (n : ℕ) (s : Scenario) (t : Times) → n < length scenarios →
       s ≡ get_or scenarios n s →
       t ≡ get_or runs n t → IsRun g order frozen s t
-  run_at scenarios runs are n s t l at is = subst (λ u. IsRun g order frozen u t) (sym at)
-      (subst (IsRun g order frozen (get_or scenarios n s)) (sym is) (are.each n s t l))
+  run_at scenarios runs are n s t within at is = subst (λ u. IsRun g order frozen u t) (sym at)
+      (subst (IsRun g order frozen (get_or scenarios n s)) (sym is) (are.each n s t within))
 
 -- the scenario at a place is one of the list
 pub scenario_at : (scenarios : List Scenario) (n : ℕ) (s : Scenario) → n < length scenarios → s ≡ get_or scenarios n s →
     Contains scenarios s
-scenario_at scenarios n s l at = (n, l, sym at)
+scenario_at scenarios n s within at = (n, within, sym at)
 
 -- the scenario at a place isn't among those before it, as no two are the same
 pub new_at : (scenarios : List Scenario) → AllPairs (λ s t. s ≢ t) scenarios → (n : ℕ) (s : Scenario) →
     n < length scenarios → s ≡ get_or scenarios n s → Contains (take n scenarios) s → ⊥
-new_at scenarios apart n s l at j = not_before_place scenarios n s apart l (subst (Contains (take n scenarios)) at j)
+new_at scenarios apart n s within at there = not_before_place scenarios n s apart within
+    (subst (Contains (take n scenarios)) at there)
 
 -- what is carried beside the start of p is `start_after` of what the processes before it on its node pass on
 pub carried_start : (g : Graph) (order : List ℕ) (rows : List (List Column)) (s : Scenario) (p : ℕ) →
     p < process_count g →
     carried g order rows s p ≡ start_after g rows s p (passed_by g rows (before_on_node g order p) s)
-carried_start g order rows s p l = ap (carried_by_item g order rows s p) (item_at-start g p l)
+carried_start g order rows s p within = ap (carried_by_item g order rows s p) (item_at-start g p within)
 
 -- the lists that f gives of `xs`, and then that of x, are those that f gives of `xs` with x at its end
 pub flat_map_push : {X : Type 0} (f : X → List Literal) (xs : List X) (x : X) →
@@ -236,7 +241,7 @@ flat_map_push f xs x = sym (flat_map-append f xs (x ∷ []) ∙ ap (λ z. flat_m
 -- `are`: the list has each scenario once; `each_run`: `runs` has the run of each; `at`, `is`: s is the scenario at the
 -- place n, and t its run
 module _ (g : Graph) (order : List ℕ) (topological : IsTopological g order) (frozen : List (Option ℕ))
-    (rows : List (List Column)) (x : ℕ) (l : x < item_count g)
+    (rows : List (List Column)) (x : ℕ) (within : x < item_count g)
     (scenarios : List Scenario) (runs : List Times) (are : AreScenarios g scenarios)
     (each_run : AreRuns g order frozen scenarios runs)
     (n : ℕ) (s : Scenario) (t : Times) (inside : n < length scenarios) (at : s ≡ get_or scenarios n s)
@@ -251,18 +256,18 @@ module _ (g : Graph) (order : List ℕ) (topological : IsTopological g order) (f
 
   -- the item x has a time in it exactly if it is active
   pub timed_here : IsTimedIfActive g s t x
-  timed_here = timed_if_active g order frozen s t run_here x l
+  timed_here = timed_if_active g order frozen s t run_here x within
 
   -- with the entry r of the scenario, if there is one, the entries of the first n scenarios are those of the first n + 1
   pub found_more : (entries next : List Column) → AreEntriesAmong g order frozen rows x (take n scenarios) entries →
       (r : Option Column) →
       IsEntryAt g s (get_or t.times x None) (carried g order rows s x) r
       → next ≡ entries ++ option_to_list r → AreEntriesAmong g order frozen rows x (take (n + 1) scenarios) next
-  found_more entries next so_far r h e =
+  found_more entries next so_far r entry_is same =
       subst (λ ds. AreEntriesAmong g order frozen rows x ds next) (sym (next_scenario scenarios n s inside at))
-      (subst (AreEntriesAmong g order frozen rows x (take n scenarios ++ s ∷ [])) (sym e)
+      (subst (AreEntriesAmong g order frozen rows x (take n scenarios ++ s ∷ [])) (sym same)
       (one_more g order topological frozen rows x (take n scenarios) entries so_far s law_here t run_here
-      (new_at scenarios are.apart n s inside at) timed_here r h))
+      (new_at scenarios are.apart n s inside at) timed_here r entry_is))
 
 -- the cube at the place n, whose turn it is, is still that of the scenario's literals before
 pub cube_here : (k : ℕ) (scenarios : List Scenario) (before literals : Scenario → List Literal) (n : ℕ)

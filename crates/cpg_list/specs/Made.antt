@@ -21,6 +21,7 @@ use Rattle.cpg_run.specs.Rows.{IsCubeOf, IsRowOf}
 -- `cubes` has for each scenario, in order, the cube of its literals; k is the number of faults of the graph
 pub record AreCubesOf (k : ℕ) (scenarios : List Scenario) (literals : Scenario → List Literal)
     (cubes : List (List Literal)) : Type 0 where
+  -- there is a cube for each scenario
   pub count : length cubes ≡ length scenarios
   -- the default s of `get_or` is never used, as i is below the length
   pub each : (i : ℕ) (s : Scenario) → i < length scenarios →
@@ -30,6 +31,7 @@ pub record AreCubesOf (k : ℕ) (scenarios : List Scenario) (literals : Scenario
 -- others those of their old literals; k is the number of faults of the graph
 pub record AreCubesUpTo (k : ℕ) (scenarios : List Scenario) (literals_old literals : Scenario → List Literal) (n : ℕ)
     (cubes : List (List Literal)) : Type 0 where
+  -- there is a cube for each scenario
   pub count : length cubes ≡ length scenarios
   -- the first n scenarios have the cubes of the new literals
   pub done : (i : ℕ) (s : Scenario) → i < n → i < length scenarios →
@@ -97,11 +99,13 @@ pub record IsRowSet (g : Graph) (urgency : List ℕ) (x : ℕ) (entries : List C
   -- the columns of the row: the merged entries
   pub columns : List Column
   pub merge : IsMergeOf g urgency entries columns
+  -- the row of x has these columns, and no other row has changed
   pub set : rows_new ≡ slice_set rows_old x (record { item = x; columns = columns })
 
 -- `cubes` has a cube for each scenario: that of what is carried at the end of the process p if p is active there, and any otherwise
 pub record AreEndsOf (g : Graph) (order : List ℕ) (rows : List (List Column)) (scenarios : List Scenario) (p : ℕ)
     (cubes : List (List Literal)) : Type 0 where
+  -- there is a cube for each scenario
   pub count : length cubes ≡ length scenarios
   -- an active p has the cube of what is carried at its end
   pub each : (i : ℕ) (s : Scenario) → i < length scenarios → active g (get_or scenarios i s).values p ≡ true →

@@ -52,9 +52,12 @@ pub record IsFed (name : List ℕ) (past rest : List Fetch) (start now : List �
 acts_grow : (table : NodeTable) (fed piece : List ℕ) (s t : LiveState) → s ≡ after table fed →
     t ≡ after table (fed ++ piece) →
     Grows s.progress.acts t.progress.acts
-acts_grow table fed piece s t e d =
-    let g = acts_more table fed piece in
-    (g.0, ap (λ (s : LiveState). s.progress.acts) d ∙ g.1 ∙ ap (λ (s : LiveState). s.progress.acts ++ g.0) (sym e))
+acts_grow table fed piece s t before d =
+    let grown = acts_more table fed piece in (
+      grown.0,
+      ap (λ (s : LiveState). s.progress.acts) d ∙ grown.1
+          ∙ ap (λ (s : LiveState). s.progress.acts ++ grown.0) (sym before),
+    )
 
 -- a fetch that gave a piece more
 abbrev pub grown_by : List ℕ → Fetch → Fetch
@@ -204,16 +207,16 @@ told_as shelf rest f n s count t e = sym (e ∙ ap (λ (f : Follower). record {
 -- ended. The sink had taken `start` before the stream, `now` before these lines and `out` after them.
 pub along_at : (name : List ℕ) (past : List Fetch) (shelf rest : ShelfState) (count : ℕ) (start now out : List ℕ)
     (f n s : Follower) (a : IsAlong name past shelf.history start now f)
-    (t : TakesPiece shelf rest f n count) → n.live.lawless ≡ None → n.read ≤ STREAM_LIMIT →
+    (takes : TakesPiece shelf rest f n count) → n.live.lawless ≡ None → n.read ≤ STREAM_LIMIT →
     Took now out (act_lines f.head (drop f.told n.live.progress.acts)) →
     s ≡ record n { told = length n.live.progress.acts } → IsAlongAt count name past rest.history start out s
 unfolding fed_along fed_on
-along_at name past shelf rest count start now out f n s a t none within whole e =
-    let k = fed_on name past shelf rest count start now f n a t in
+along_at name past shelf rest count start now out f n s a takes none within whole told_is =
+    let fed_on_now = fed_on name past shelf rest count start now f n a takes in
     let along = fed_along name past rest.history start now out f.head f.table f.live.progress.acts f.told n.read n.live
-    k none within whole in
-    subst (IsAlongAt count name past rest.history start out) (told_as shelf rest f n s count t e)
-    (record { along = along; end = fed_end name past shelf rest count start now f n a t })
+    fed_on_now none within whole in
+    subst (IsAlongAt count name past rest.history start out) (told_as shelf rest f n s count takes told_is)
+    (record { along = along; end = fed_end name past shelf rest count start now f n a takes })
 
 -- the follower made of a head `k` and a table `made`, which equal `h` and `table`, and of the state before the first
 -- byte, is the open one

@@ -129,15 +129,15 @@ after_few table bytes =
     let most = column_count table.sends + column_count table.starts in
     let first : HasFew table most (start table) =
     record { same = refl; few = omega (arith, room_open (initial_dispatcher table)) } in
-    let s : LiveState = fold take_record (open_stream table) (cut bytes).whole in
-    rest_few table most s (cut bytes).rest (records_few table most (open_stream table) (cut bytes).whole first)
+    let before : LiveState = fold take_record (open_stream table) (cut bytes).whole in
+    rest_few table most before (cut bytes).rest (records_few table most (open_stream table) (cut bytes).whole first)
 
 -- the acts after bytes are at most as many as the columns of what the node sends and starts
 pub few_acts : (table : NodeTable) (bytes : List ℕ) →
     length (after table bytes).progress.acts ≤ column_count table.sends + column_count table.starts
-few_acts table bytes = let h = after_few table bytes in omega (arith, h.few)
+few_acts table bytes = let bound = after_few table bytes in omega (arith, bound.few)
 
 -- bytes leave the table as it is
 pub table_after : (table : NodeTable) (bytes : List ℕ) (s : LiveState) → s ≡ after table bytes →
     s.progress.dispatcher.table ≡ table
-table_after table bytes s e = ap (λ (s : LiveState). s.progress.dispatcher.table) e ∙ (after_few table bytes).same
+table_after table bytes s is = ap (λ (s : LiveState). s.progress.dispatcher.table) is ∙ (after_few table bytes).same

@@ -183,20 +183,20 @@ pub within_record : (table : NodeTable) (bytes : List ℕ) (records part : ℕ) 
     records < 2 ^ 64 →
     IsWithinRecord (after table bytes) records
 within_record table bytes records part lawful long some less few =
-    let c = cut_counted bytes in
-    let s : LiveState = fold take_record (open_stream table) (cut bytes).whole in
-    let rest = rest_taken s (cut bytes).rest lawful in
+    let counted = cut_counted bytes in
+    let before : LiveState = fold take_record (open_stream table) (cut bytes).whole in
+    let rest = rest_taken before (cut bytes).rest lawful in
     record {
       taken = omega (
         arith,
         rest.taken,
         records_taken (open_stream table) (cut bytes).whole (omega arith) rest.lawful,
-        c.all,
-        c.part,
+        counted.all,
+        counted.part,
         long,
         some,
         less,
         few,
       );
-      not_closed = rest.open_still (omega (arith, c.all, c.part, long, some, less));
+      not_closed = rest.open_still (omega (arith, counted.all, counted.part, long, some, less));
     }

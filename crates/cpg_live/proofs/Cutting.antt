@@ -76,14 +76,15 @@ more s rest = cond (length rest == 14) (with_rest (take_record s rest) []) (with
 -- record is lawless
 lawless_byte : (s : LiveState) (lawless : LawlessRecord) (rest bytes : List ℕ) (byte : ℕ) → s.lawless ≡ Some lawless →
     take_byte (with_rest s rest) byte ≡ more s bytes
-lawless_byte s lawless rest bytes byte e =
-    let t : is_some s.lawless ≡ true = ap is_some e in
+lawless_byte s lawless rest bytes byte lawless_is =
+    let is_lawless : is_some s.lawless ≡ true = ap is_some lawless_is in
     let same : (r : List ℕ) → with_rest s r ≡ s =
-    λ r. ap (λ b. cond b s (cond (s.closed && nat_lt 0 (length r)) (refused s Length) (record s { rest = r }))) t in
+    λ r. ap (λ b. cond b s (cond (s.closed && nat_lt 0 (length r)) (refused s Length) (record s { rest = r })))
+    is_lawless in
     let taken : take_record s bytes ≡ s = ap (λ b. cond b s (cond s.closed (refused s Length)
-    (judged s (record_of bytes).time (event_of s.progress.dispatcher.table (record_of bytes))))) t in
+    (judged s (record_of bytes).time (event_of s.progress.dispatcher.table (record_of bytes))))) is_lawless in
     ap (λ z. take_byte z byte) (same rest)
-    ∙ ap (λ b. cond b s (cond s.closed (refused s Length) (take_open s (s.rest ++ byte ∷ [])))) t
+    ∙ ap (λ b. cond b s (cond s.closed (refused s Length) (take_open s (s.rest ++ byte ∷ [])))) is_lawless
     ∙ sym (both (length bytes == 14) (ap (λ z. with_rest z []) taken ∙ same []) (same bytes))
   where
     -- if both branches are the old state, so is the whole, whether the record is complete or not
@@ -179,8 +180,8 @@ next_byte s rest byte e = go s.lawless refl
 cut_next : (table : NodeTable) (c : Cut) (byte : ℕ) →
     take_byte (after_cut table c) byte ≡ after_cut table (cut_byte c byte)
 cut_next table c byte =
-    let s : LiveState = fold take_record (open_stream table) c.whole in
-    next_byte s c.rest byte (records_empty (open_stream table) c.whole refl)
+    let before : LiveState = fold take_record (open_stream table) c.whole in
+    next_byte before c.rest byte (records_empty (open_stream table) c.whole refl)
     ∙ both (length (c.rest ++ byte ∷ []) == 14) (length c.rest + 1 == 14)
     (ap (λ n. n == 14) (length-append c.rest (byte ∷ [])))
   where

@@ -39,19 +39,19 @@ use Rattle.cpg_live.proofs.Turns.{floor_after, after_floor, Below, NotBelow, bel
 -- if candidate `x` is after the last turn of dispatcher `d`, the next instant `y` isn't later than `x`
 candidate_next : (d : Dispatcher) (x : ℕ) → Contains (candidates d) x → is_after d.last x ≡ true →
     (y : ℕ) × (next d ≡ Some y) × (y ≤ x)
-candidate_next d x m a = go (next d) refl
+candidate_next d x among later = go (next d) refl
   where
     -- by `o`, the next instant of the node: without one no candidate is after the last turn
     go : (o : Option ℕ) → next d ≡ o → (y : ℕ) × (next d ≡ Some y) × (y ≤ x)
-    go None e = absurd (true≢false (sym (next_none d e x m) ∙ not_by d.last x a))
-    go (Some y) e = (y, e, (next_is d y e).least x m (not_by d.last x a))
+    go None e = absurd (true≢false (sym (next_none d e x among) ∙ not_by d.last x later))
+    go (Some y) e = (y, e, (next_is d y e).least x among (not_by d.last x later))
 
 -- if no awaited instant of node `p` is below the limit, no turn is taken, however many, `n`, might be
 still_fewer : (n limit : ℕ) (p : NodeProgress) → instant_below limit (next_awaited p.dispatcher) ≡ None →
     turns_awaited n limit p ≡ p
 unfolding turns_awaited
-still_fewer zero limit p e = refl
-still_fewer (suc n) limit p e = ap (λ o. turns_awaited n limit (turn_if p o)) e ∙ still_fewer n limit p e
+still_fewer zero limit p none = refl
+still_fewer (suc n) limit p none = ap (λ o. turns_awaited n limit (turn_if p o)) none ∙ still_fewer n limit p none
 
 -- What runs tells few faults.
 
@@ -59,25 +59,25 @@ module _ (k : ℕ) where
   -- what runs still tells few faults after a turn
   few_after : (ended : List Ended) (acts : List Act) (time : ℕ) (o : Own) (run : Option Running) → TellsFew k run →
       TellsFew k (running_after ended acts time o run)
-  few_after ended acts time o run h =
+  few_after ended acts time o run few =
       go (list_any (λ (a : Act). a.item == o.process) acts) (list_any (λ (e : Ended). e.process == o.process) ended)
     where
       -- by whether the process starts (its run has no report yet), ends (it runs no more), or neither
       go : (b c : Bool) → TellsFew k (cond b (Some (record { start = time; report = None })) (cond c None run))
       go true c = tt
       go false true = tt
-      go false false = h
+      go false false = few
 
   -- a report `e` of few faults leaves what process `o` runs telling few
   few_report : (e : Ended) → e.faults ≤ k → (o : Own) (run : Option Running) → TellsFew k run →
       TellsFew k (with_report e o run)
-  few_report e few o None h = h
-  few_report e few o (Some run) h = go (o.process == e.process)
+  few_report e few o None tells_few = tells_few
+  few_report e few o (Some run) tells_few = go (o.process == e.process)
     where
       -- by whether the report is of this process
       go : (b : Bool) → TellsFew k (cond b (Some (record { start = run.start; report = Some e })) (Some run))
       go true = few
-      go false = h
+      go false = tells_few
 
   -- if a step `f` keeps each execution telling at most `k` faults, it keeps all of them so
   few_zip : (f : Own → Option Running → Option Running) →
@@ -85,22 +85,22 @@ module _ (k : ℕ) where
       (os : List Own) (runs : List (Option Running)) →
       All (TellsFew k) runs →
       All (TellsFew k) (zip_with f os runs)
-  few_zip f keep [] runs h = All-nil (TellsFew k)
-  few_zip f keep (o ∷ os) [] h = All-nil (TellsFew k)
-  few_zip f keep (o ∷ os) (run ∷ runs) h =
-      All-cons (TellsFew k) (f o run) (zip_with f os runs) (keep o run (All-head (TellsFew k) run runs h))
-      (few_zip f keep os runs (All-tail (TellsFew k) run runs h))
+  few_zip f keep [] runs tell_few = All-nil (TellsFew k)
+  few_zip f keep (o ∷ os) [] tell_few = All-nil (TellsFew k)
+  few_zip f keep (o ∷ os) (run ∷ runs) tell_few =
+      All-cons (TellsFew k) (f o run) (zip_with f os runs) (keep o run (All-head (TellsFew k) run runs tell_few))
+      (few_zip f keep os runs (All-tail (TellsFew k) run runs tell_few))
 
 -- What a reported end moves.
 
 -- if process `p` isn't among a node's own processes `os`, it runs nothing
 none_in : (p : ℕ) (os : List Own) (runs : List (Option Running)) → ((o : Own) → Contains os o → o.process ≢ p) →
     running_in os runs p ≡ None
-none_in p [] runs h = refl
-none_in p (o ∷ os) [] h = refl
-none_in p (o ∷ os) (run ∷ runs) h =
-    cond-false _ run (running_in os runs p) (ne_eqb o.process p (h o (Contains-first o os)))
-    ∙ none_in p os runs (λ q m. h q (Contains-rest o os q m))
+none_in p [] runs others = refl
+none_in p (o ∷ os) [] others = refl
+none_in p (o ∷ os) (run ∷ runs) others =
+    cond-false _ run (running_in os runs p) (ne_eqb o.process p (others o (Contains-first o os)))
+    ∙ none_in p os runs (λ q among. others q (Contains-rest o os q among))
 
 -- a process as the node's table has it
 abbrev own_in : List Own → ℕ → Own
@@ -241,23 +241,23 @@ module _ (t : NodeTable) (made : IsTable t) where
       Contains (awaited (node heard runs m)) x →
       is_after m x ≡ true →
       (y : ℕ) × (next (node heard runs l) ≡ Some y) × (y ≤ x)
-  awaited_next heard runs l m alike x c z =
-      candidate_next (node heard runs l) x (awaited_candidates (node heard runs l) made alike.few x c)
-      (alike.reached x c ∙ z)
+  awaited_next heard runs l m alike x awaited_here later =
+      candidate_next (node heard runs l) x (awaited_candidates (node heard runs l) made alike.few x awaited_here)
+      (alike.reached x awaited_here ∙ later)
 
   -- if the node of all turns has no instant below a limit, the other has none: an instant that is awaited is no earlier
   -- than the next one of all (`awaited_next`)
   none_fewer : (heard : List Range) (runs : List (Option Running)) (l m : Option ℕ) (limit : ℕ) → Alike runs l m →
       NotBelow limit (next (node heard runs l)) →
       instant_below limit (next_awaited (node heard runs m)) ≡ None
-  none_fewer heard runs l m limit alike n = elim (below_or_not limit (next_awaited (node heard runs m))) [
-    | inr z ↦ z.none
-    | inl b ↦
-        let p = least_of_parts (filter (is_after m) (awaited (node heard runs m))) b.time b.is in
-        let q = Contains-filter_parts (is_after m) (awaited (node heard runs m)) b.time p.0 in
-        let y = awaited_next heard runs l m alike b.time q.0 q.1 in
-        let past : limit ≤ y.0 = subst (λ o. IfSome o (λ time. limit ≤ time)) y.1 n.past in
-        absurd (omega (arith, past, y.2, b.less))
+  none_fewer heard runs l m limit alike not_below = elim (below_or_not limit (next_awaited (node heard runs m))) [
+    | inr none_below ↦ none_below.none
+    | inl below ↦
+        let least = least_of_parts (filter (is_after m) (awaited (node heard runs m))) below.time below.is in
+        let parts = Contains-filter_parts (is_after m) (awaited (node heard runs m)) below.time least.0 in
+        let next_one = awaited_next heard runs l m alike below.time parts.0 parts.1 in
+        let past : limit ≤ next_one.0 = subst (λ o. IfSome o (λ time. limit ≤ time)) next_one.1 not_below.past in
+        absurd (omega (arith, past, next_one.2, below.less))
   ]
 
   -- if the next instant `time` of the node with last turn `l` is awaited by the one with last turn `m`, it is the next
@@ -266,22 +266,22 @@ module _ (t : NodeTable) (made : IsTable t) where
       next (node heard runs l) ≡ Some time →
       Contains (awaited (node heard runs m)) time →
       next_awaited (node heard runs m) ≡ Some time
-  next_same heard runs l m time alike e c = go (next_awaited (node heard runs m)) refl
+  next_same heard runs l m time alike comes awaited_too = go (next_awaited (node heard runs m)) refl
     where
       -- the instant is awaited by the other node, after its last turn
       there : Contains (filter (is_after m) (awaited (node heard runs m))) time
       there = Contains-filter (is_after m) (awaited (node heard runs m)) time
-          (sym (alike.reached time c) ∙ (next_is (node heard runs l) time e).after) c
+          (sym (alike.reached time awaited_too) ∙ (next_is (node heard runs l) time comes).after) awaited_too
 
       -- by the next awaited instant of the other node: it is neither before nor after the instant
       go : (o : Option ℕ) → next_awaited (node heard runs m) ≡ o → o ≡ Some time
-      go None z = absurd (Contains-nil time (subst (λ l. Contains l time) (least_of_none _ z) there))
-      go (Some y) z =
-          let p = least_of_parts (filter (is_after m) (awaited (node heard runs m))) y z in
-          let q = Contains-filter_parts (is_after m) (awaited (node heard runs m)) y p.0 in
-          let n = awaited_next heard runs l m alike y q.0 q.1 in
-          let same : n.0 ≡ time = same_Some _ _ (sym n.1 ∙ e) in
-          let is : y ≡ time = omega (arith, p.1 time there, n.2, same) in
+      go None found = absurd (Contains-nil time (subst (λ l. Contains l time) (least_of_none _ found) there))
+      go (Some y) found =
+          let least = least_of_parts (filter (is_after m) (awaited (node heard runs m))) y found in
+          let parts = Contains-filter_parts (is_after m) (awaited (node heard runs m)) y least.0 in
+          let next_one = awaited_next heard runs l m alike y parts.0 parts.1 in
+          let same : next_one.0 ≡ time = same_Some _ _ (sym next_one.1 ∙ comes) in
+          let is : y ≡ time = omega (arith, least.1 time there, next_one.2, same) in
           ap Some is
 
   -- a turn at `time` keeps what is known of the executions, `runs`: there are as many, and they tell few faults; both last
@@ -309,19 +309,19 @@ module _ (t : NodeTable) (made : IsTable t) where
       next (node heard runs l) ≡ Some time →
       (Contains (awaited (node heard runs m)) time → ⊥) →
       Alike runs (Some time) m
-  alike_quiet heard runs l m time alike e out = record {
+  alike_quiet heard runs l m time alike comes out = record {
     count = alike.count;
     few = alike.few;
     reached = λ x c. same_truth (is_after (Some time) x) (is_after m x)
-        (λ z. sym (alike.reached x c) ∙ after_floor l x
-        (let f = floor_after l time (next_is (node heard runs l) time e).after in
-        omega (arith, f, ltb-true time x z)))
-        (λ z. let n = awaited_next heard runs l m alike x c z in
-        let same : n.0 ≡ time = same_Some _ _ (sym n.1 ∙ e) in
+        (λ later. sym (alike.reached x c) ∙ after_floor l x
+        (let floor = floor_after l time (next_is (node heard runs l) time comes).after in
+        omega (arith, floor, ltb-true time x later)))
+        (λ later. let next_one = awaited_next heard runs l m alike x c later in
+        let same : next_one.0 ≡ time = same_Some _ _ (sym next_one.1 ∙ comes) in
         elim (cases_eq x time) [
           | inl is ↦ absurd (out (subst (Contains (awaited (node heard runs m))) is c))
           | inr ne ↦ lt-ltb time x
-              (elim (cases_lt time x) [ inl less ↦ less | inr ge ↦ absurd (ne (omega (arith, n.2, same, ge))) ])
+              (elim (cases_lt time x) [ inl less ↦ less | inr ge ↦ absurd (ne (omega (arith, next_one.2, same, ge))) ])
         ]);
   }
 
@@ -331,8 +331,8 @@ module _ (t : NodeTable) (made : IsTable t) where
       (Contains (awaited (node heard runs m)) time → ⊥) →
       take_turn time (prog heard runs l acts) ≡ prog heard runs (Some time) acts
   left_out heard runs l m acts time alike out =
-      let q = quiet_turns (node heard runs l) time alike.count (turns_left_out (node heard runs l) time out heard) in
-      λ i. record { dispatcher = q.0 i; acts = (ap (λ (more : List Act). acts ++ more) q.1 ∙ append-nil acts) i }
+      let idle = quiet_turns (node heard runs l) time alike.count (turns_left_out (node heard runs l) time out heard) in
+      λ i. record { dispatcher = idle.0 i; acts = (ap (λ (more : List Act). acts ++ more) idle.1 ∙ append-nil acts) i }
 
   -- n turns of the node that takes all turns and k of the other, both enough to come to the limit, leave the nodes alike
   abbrev TurnsAlike : ℕ → ℕ → Type 0
@@ -369,29 +369,30 @@ module _ (t : NodeTable) (made : IsTable t) where
       (k : ℕ) (heard : List Range) (runs : List (Option Running)) (l m : Option ℕ) (acts : List Act) → Alike runs l m →
       limit ≤ suc n + after_last l →
       limit ≤ k + after_last m →
-      (b : Below limit (next (node heard runs l))) → Contains (awaited (node heard runs m)) b.time →
-      Pair limit (turns_below n limit (take_turn b.time (prog heard runs l acts)))
+      (below : Below limit (next (node heard runs l))) → Contains (awaited (node heard runs m)) below.time →
+      Pair limit (turns_below n limit (take_turn below.time (prog heard runs l acts)))
       (turns_awaited k limit (prog heard runs m acts))
   unfolding turns_awaited
-  both_turn n limit ih zero heard runs l m acts alike p q b c =
-      let passed : is_after m b.time ≡ true =
-      sym (alike.reached b.time c) ∙ (next_is (node heard runs l) b.time b.is).after in
-      absurd (omega (arith, q, b.less, floor_after m b.time passed))
-  both_turn n limit ih (suc k) heard runs l m acts alike p q b c =
-      let passed : is_after m b.time ≡ true =
-      sym (alike.reached b.time c) ∙ (next_is (node heard runs l) b.time b.is).after in
-      let found : instant_below limit (next_awaited (node heard runs m)) ≡ Some b.time =
-      ap (instant_below limit) (next_same heard runs l m b.time alike b.is c)
-      ∙ ap (λ z. cond z (Some b.time) None) (lt-ltb b.time limit b.less) in
-      let d : Dispatcher = node heard runs l in
-      let f = floor_after l b.time (next_is (node heard runs l) b.time b.is).after in
-      let g = floor_after m b.time passed in
-      subst (λ Q. Pair limit (turns_below n limit (take_turn b.time (prog heard runs l acts)))
+  both_turn n limit ih zero heard runs l m acts alike enough enough_too below awaited_too =
+      let passed : is_after m below.time ≡ true =
+      sym (alike.reached below.time awaited_too) ∙ (next_is (node heard runs l) below.time below.is).after in
+      absurd (omega (arith, enough_too, below.less, floor_after m below.time passed))
+  both_turn n limit ih (suc k) heard runs l m acts alike enough enough_too below awaited_too =
+      let passed : is_after m below.time ≡ true =
+      sym (alike.reached below.time awaited_too) ∙ (next_is (node heard runs l) below.time below.is).after in
+      let found : instant_below limit (next_awaited (node heard runs m)) ≡ Some below.time =
+      ap (instant_below limit) (next_same heard runs l m below.time alike below.is awaited_too)
+      ∙ ap (λ z. cond z (Some below.time) None) (lt-ltb below.time limit below.less) in
+      let before : Dispatcher = node heard runs l in
+      let l_floor = floor_after l below.time (next_is (node heard runs l) below.time below.is).after in
+      let m_floor = floor_after m below.time passed in
+      subst (λ Q. Pair limit (turns_below n limit (take_turn below.time (prog heard runs l acts)))
       (turns_awaited k limit Q))
       (sym (ap (turn_if (prog heard runs m acts)) found))
-      (ih k (heard_after d b.time [] []) (turn d b.time [] []).running (Some b.time) (Some b.time)
-      (acts ++ acts_of_turn d b.time [] []) (alike_turn heard runs l b.time alike.count alike.few)
-      (omega (arith, p, f)) (omega (arith, q, g)) (lt-ltb b.time limit b.less) (lt-ltb b.time limit b.less))
+      (ih k (heard_after before below.time [] []) (turn before below.time [] []).running (Some below.time)
+      (Some below.time) (acts ++ acts_of_turn before below.time [] [])
+      (alike_turn heard runs l below.time alike.count alike.few) (omega (arith, enough, l_floor))
+      (omega (arith, enough_too, m_floor)) (lt-ltb below.time limit below.less) (lt-ltb below.time limit below.less))
 
   -- a turn of the node with last turn `l`, which takes all turns, leaves both alike: the node with last turn `m` takes
   -- it too if its instant is awaited, and leaves it out if not
@@ -399,69 +400,67 @@ module _ (t : NodeTable) (made : IsTable t) where
       (k : ℕ) (heard : List Range) (runs : List (Option Running)) (l m : Option ℕ) (acts : List Act) → Alike runs l m →
       limit ≤ suc n + after_last l →
       limit ≤ k + after_last m → is_after m limit ≡ true →
-      (b : Below limit (next (node heard runs l))) →
-      Pair limit (turns_below n limit (take_turn b.time (prog heard runs l acts)))
+      (below : Below limit (next (node heard runs l))) →
+      Pair limit (turns_below n limit (take_turn below.time (prog heard runs l acts)))
       (turns_awaited k limit (prog heard runs m acts))
-  next_turn n limit ih k heard runs l m acts alike p q g b =
-      elim (cases_Bool (list_any (λ x. x == b.time) (awaited (node heard runs m)))) [
+  next_turn n limit ih k heard runs l m acts alike enough enough_too later below =
+      elim (cases_Bool (list_any (λ x. x == below.time) (awaited (node heard runs m)))) [
         | inl there ↦
-            let c = list_any_parts (λ x. x == b.time) (awaited (node heard runs m)) there in
-            both_turn n limit ih k heard runs l m acts alike p q b
-            (subst (Contains (awaited (node heard runs m))) (eqb-true c.0 b.time c.2) c.1)
+            let found = list_any_parts (λ x. x == below.time) (awaited (node heard runs m)) there in
+            both_turn n limit ih k heard runs l m acts alike enough enough_too below
+            (subst (Contains (awaited (node heard runs m))) (eqb-true found.0 below.time found.2) found.1)
         | inr gone ↦
-            let out : Contains (awaited (node heard runs m)) b.time → ⊥ = λ c.
-            true≢false (sym (eq-eqb b.time b.time refl)
-            ∙ from_any_false (λ x. x == b.time) (awaited (node heard runs m)) b.time gone c) in
-            let f = floor_after l b.time (next_is (node heard runs l) b.time b.is).after in
+            let out : Contains (awaited (node heard runs m)) below.time → ⊥ = λ found.
+            true≢false (sym (eq-eqb below.time below.time refl)
+            ∙ from_any_false (λ x. x == below.time) (awaited (node heard runs m)) below.time gone found) in
+            let floor = floor_after l below.time (next_is (node heard runs l) below.time below.is).after in
             subst (λ P. Pair limit (turns_below n limit P) (turns_awaited k limit (prog heard runs m acts)))
-            (sym (left_out heard runs l m acts b.time alike out))
-            (ih k heard runs (Some b.time) m acts (alike_quiet heard runs l m b.time alike b.is out)
-            (omega (arith, p, f)) q
-            (lt-ltb b.time limit b.less) g)
+            (sym (left_out heard runs l m acts below.time alike out))
+            (ih k heard runs (Some below.time) m acts (alike_quiet heard runs l m below.time alike below.is out)
+            (omega (arith, enough, floor)) enough_too (lt-ltb below.time limit below.less) later)
       ]
 
   -- that is so for each n, by induction: no instant is left below the limit, or the next turn is taken by one or both
   turns_alike : (n limit : ℕ) → TurnsAlike n limit
   unfolding turns_below
   turns_alike zero limit k heard runs l m acts alike p q f g = elim (below_or_not limit (next (node heard runs l))) [
-    | inr z ↦ ended_alike zero k limit heard runs l m acts alike f g z
+    | inr none_below ↦ ended_alike zero k limit heard runs l m acts alike f g none_below
     | inl b ↦ absurd (omega (arith, p, b.less, floor_after l b.time (next_is (node heard runs l) b.time b.is).after))
   ]
   turns_alike (suc n) limit k heard runs l m acts alike p q f g = elim (below_or_not limit (next (node heard runs l))) [
-    | inr z ↦ ended_alike (suc n) k limit heard runs l m acts alike f g z
-    | inl b ↦
+    | inr none_below ↦ ended_alike (suc n) k limit heard runs l m acts alike f g none_below
+    | inl below ↦
         subst (λ P. Pair limit (turns_below n limit P) (turns_awaited k limit (prog heard runs m acts)))
-        (sym (ap (turn_if (prog heard runs l acts)) b.found))
-        (next_turn n limit (turns_alike n limit) k heard runs l m acts alike p q g b)
+        (sym (ap (turn_if (prog heard runs l acts)) below.found))
+        (next_turn n limit (turns_alike n limit) k heard runs l m acts alike p q g below)
   ]
 
   -- if nodes `P` and `Q` are alike up to a limit, they are so after all turns below it
   turned_alike : (limit : ℕ) (P Q : NodeProgress) → Pair limit P Q → Pair limit (turned limit P) (turned_fewer limit Q)
-  turned_alike limit P Q k =
-      subst (λ P. Pair limit (turned limit P) (turned_fewer limit Q)) (sym k.one)
-      (subst (λ Q. Pair limit (turned limit (prog k.heard k.runs k.l k.acts)) (turned_fewer limit Q)) (sym k.two)
-      (turns_alike limit limit limit k.heard k.runs k.l k.m k.acts k.alike (omega arith)
-      (omega arith) k.before k.later))
+  turned_alike limit P Q pair =
+      subst (λ P. Pair limit (turned limit P) (turned_fewer limit Q)) (sym pair.one)
+      (subst (λ Q. Pair limit (turned limit (prog pair.heard pair.runs pair.l pair.acts)) (turned_fewer limit Q))
+      (sym pair.two) (turns_alike limit limit limit pair.heard pair.runs pair.l pair.m pair.acts pair.alike
+      (omega arith) (omega arith) pair.before pair.later))
 
   -- if time `x` is after the last turn `l`, so is each later time `y`
   after_more : (l : Option ℕ) (x y : ℕ) → x ≤ y → is_after l x ≡ true → is_after l y ≡ true
-  after_more l x y le h = after_floor l y (let f = floor_after l x h in omega (arith, le, f))
+  after_more l x y le after = after_floor l y (let floor = floor_after l x after in omega (arith, le, floor))
 
   -- if nodes `P` and `Q` are alike up to time `x`, they are so up to each later time `y`
   pair_later : (x y : ℕ) (P Q : NodeProgress) → x ≤ y → Pair x P Q → Pair y P Q
-  pair_later x y P Q le k =
+  pair_later x y P Q le pair =
       record {
-        heard = k.heard;
-        runs = k.runs;
-        acts = k.acts;
-        l = k.l;
-        m = k.m;
-        one = k.one;
-        two = k.two;
-        alike = k.alike;
-        before = after_more k.l x y le k.before;
-        later =
-            after_more k.m x y le k.later;
+        heard = pair.heard;
+        runs = pair.runs;
+        acts = pair.acts;
+        l = pair.l;
+        m = pair.m;
+        one = pair.one;
+        two = pair.two;
+        alike = pair.alike;
+        before = after_more pair.l x y le pair.before;
+        later = after_more pair.m x y le pair.later;
       }
 
   -- step `s` of the one node and step `z` of the other are alike: in the fault that they find, and in what they leave
@@ -480,7 +479,7 @@ module _ (t : NodeTable) (made : IsTable t) where
       (subst (λ Q. AreStepsAlike time (arrived time f (prog k.heard k.runs k.l k.acts)) (arrived time f Q)) (sym k.two)
       (go (is_strange (node k.heard k.runs k.l) time f)))
     where
-      -- by whether the frame is strange, which the table and the time decide
+      -- by whether the frame is strange, as the table, the time and what was heard decide, alike for both nodes
       go : (b : Bool) →
           AreStepsAlike time (cond b (lawless (prog k.heard k.runs k.l k.acts) StrangeFrame)
           (lawful (prog (hear_frame t k.heard f) k.runs k.l k.acts)))
@@ -516,8 +515,7 @@ module _ (t : NodeTable) (made : IsTable t) where
               two = refl;
               alike = k.alike;
               before = k.before;
-              later =
-                  k.later;
+              later = k.later;
             };
           }
 
@@ -790,10 +788,10 @@ rest_same s rest = go (is_some s.lawless) (s.closed && nat_lt 0 (length rest))
 -- leaving turns out changes nothing but the instant of the last turn
 pub turns_may_be_left_out : TurnsMayBeLeftOut
 turns_may_be_left_out table bytes made =
-    let s : LiveState = fold take_record (open_stream table) (cut bytes).whole in
-    let z : LiveState = fold take_record_fewer (open_stream table) (cut bytes).whole in
-    let is = twin_is table made s z
+    let all_turns : LiveState = fold take_record (open_stream table) (cut bytes).whole in
+    let fewer : LiveState = fold take_record_fewer (open_stream table) (cut bytes).whole in
+    let is = twin_is table made all_turns fewer
     (twins_whole table made (cut bytes).whole (open_stream table) (open_stream table) (twins_open table made)) in
-    let last = ap (λ (p : NodeProgress). p.dispatcher.last) (rest_same z (cut bytes).rest) in
-    ap (λ z. with_rest z (cut bytes).rest) is ∙ rest_last s (cut bytes).rest z.progress.dispatcher.last
-    ∙ ap (with_last (with_rest s (cut bytes).rest)) (sym last)
+    let last = ap (λ (p : NodeProgress). p.dispatcher.last) (rest_same fewer (cut bytes).rest) in
+    ap (λ z. with_rest z (cut bytes).rest) is ∙ rest_last all_turns (cut bytes).rest fewer.progress.dispatcher.last
+    ∙ ap (with_last (with_rest all_turns (cut bytes).rest)) (sym last)

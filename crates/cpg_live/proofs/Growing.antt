@@ -84,10 +84,10 @@ judged_grows s time (Some event) = go (nat_lt time s.time)
         (cond b (refused s Order) (stepped s time event (step time event s.progress))).progress.acts
     go true = same s.progress.acts
     go false =
-        let g = step_grows time event s.progress in (
-          g.0,
+        let grown = step_grows time event s.progress in (
+          grown.0,
           settled_acts (record s { progress = (step time event s.progress).progress }) time event
-              (step time event s.progress).fault ∙ g.1,
+              (step time event s.progress).fault ∙ grown.1,
         )
 
 -- a record adds acts alone

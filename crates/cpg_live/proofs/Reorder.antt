@@ -30,8 +30,8 @@ module _ (time : ℕ) where
 
   -- an instant that isn't before the time isn't below it
   left : (o : Option ℕ) → IfSome o (λ t. time ≤ t) → instant_below time o ≡ None
-  left None h = refl
-  left (Some t) h = ap (λ b. cond b (Some t) None) (le-ltb t time h)
+  left None not_before = refl
+  left (Some t) not_before = ap (λ b. cond b (Some t) None) (le-ltb t time not_before)
 
   -- after the turns before the time a node is ready for events of the time
   ready : (p : NodeProgress) → IsReady (turned time p).dispatcher
@@ -57,17 +57,18 @@ module _ (time : ℕ) where
   -- a node `p` that is ready takes a frame `f` that isn't strange
   hears : (p : NodeProgress) (f : Frame) → IsReady p.dispatcher → is_strange p.dispatcher time f ≡ false →
       follow_one (lawful p) (time, Arrival f) ≡ lawful (with_node p (hear p.dispatcher f))
-  hears p f r fine = ap (arrived time f) (turned_last time p r)
+  hears p f ready_now fine = ap (arrived time f) (turned_last time p ready_now)
       ∙ ap (λ b. cond b (lawless p StrangeFrame) (lawful (with_node p (hear p.dispatcher f)))) fine
 
   -- a frame `f` that a ready node `p` takes isn't strange
   hears_fine : (p : NodeProgress) (f : Frame) → IsReady p.dispatcher →
       (follow_one (lawful p) (time, Arrival f)).fault ≡ None →
       is_strange p.dispatcher time f ≡ false
-  hears_fine p f r e = elim (cases_Bool (is_strange p.dispatcher time f)) [
+  hears_fine p f ready_now none = elim (cases_Bool (is_strange p.dispatcher time f)) [
     | inr fine ↦ fine
     | inl strange ↦
-        absurd (none-some StrangeFrame (sym e ∙ ap (λ (s : Step). s.fault) (ap (arrived time f) (turned_last time p r))
+        absurd (none-some StrangeFrame (sym none ∙ ap (λ (s : Step). s.fault)
+        (ap (arrived time f) (turned_last time p ready_now))
         ∙ ap (λ b. (cond b (lawless p StrangeFrame) (lawful (with_node p (hear p.dispatcher f)))).fault) strange))
   ]
 
@@ -78,23 +79,24 @@ module _ (time : ℕ) where
   -- a node `p` that is ready takes an end `e` that may be reported
   notes : (p : NodeProgress) (e : Ended) → IsReady p.dispatcher → may_end p.dispatcher time e ≡ true →
       follow_one (lawful p) (time, end_of e) ≡ lawful (with_node p (finished p.dispatcher e))
-  notes p e r fine = ap (ended time e) (turned_last time p r)
+  notes p e ready_now fine = ap (ended time e) (turned_last time p ready_now)
       ∙ ap (λ b. cond b (lawful (with_node p (finished p.dispatcher e))) (lawless p FalseEnd)) fine
 
   -- an end `e` that a ready node `p` takes is one that may be reported
   notes_fine : (p : NodeProgress) (e : Ended) → IsReady p.dispatcher →
       (follow_one (lawful p) (time, end_of e)).fault ≡ None →
       may_end p.dispatcher time e ≡ true
-  notes_fine p e r none = elim (cases_Bool (may_end p.dispatcher time e)) [
+  notes_fine p e ready_now none = elim (cases_Bool (may_end p.dispatcher time e)) [
     | inl fine ↦ fine
     | inr wrong ↦
-        absurd (none-some FalseEnd (sym none ∙ ap (λ (s : Step). s.fault) (ap (ended time e) (turned_last time p r))
+        absurd (none-some FalseEnd (sym none ∙ ap (λ (s : Step). s.fault)
+        (ap (ended time e) (turned_last time p ready_now))
         ∙ ap (λ b. (cond b (lawful (with_node p (finished p.dispatcher e))) (lawless p FalseEnd)).fault) wrong))
   ]
 
   -- an end `e` leaves dispatcher `d` ready
   still_ready : (d : Dispatcher) (e : Ended) → IsReady d → IsReady (finished d e)
-  still_ready d e r = ap (instant_below time) (next_same d e) ∙ r
+  still_ready d e ready_now = ap (instant_below time) (next_same d e) ∙ ready_now
 
   -- after a report `x`, end `y` of another process may be reported exactly if it could be before
   may_still : (d : Dispatcher) (x y : Ended) → x.process ≢ y.process → may_end (finished d x) time y ≡ may_end d time y
@@ -103,9 +105,9 @@ module _ (time : ℕ) where
 
   -- after a report `x`, another end `y` of the same process may not be reported
   not_again : (d : Dispatcher) (x y : Ended) → x.process ≡ y.process → may_end (finished d x) time y ≡ true → ⊥
-  not_again d x y same h =
+  not_again d x y same again =
       let tests = and_parts (may_tell (finished d x) y)
-      (may_end_now (finished d x) time y (running_of (finished d x) y.process)) h in
+      (may_end_now (finished d x) time y (running_of (finished d x) y.process)) again in
       let run = unreported (finished d x) time y (running_of (finished d x) y.process) tests.1 in
       reported_once d x run.run (ap (running_of (finished d x)) same ∙ run.runs) run.none
 
@@ -116,90 +118,96 @@ module _ (time : ℕ) where
         is_strange (hear p.dispatcher x) time y ≡ false →
         follow_one (follow_one (lawful p) (time, Arrival x)) (time, Arrival y)
         ≡ follow_one (follow_one (lawful p) (time, Arrival y)) (time, Arrival x)
-    two_frames x y e f =
-        let q = fine_either p.dispatcher time x y e f in
-        ap (λ s. follow_one s (time, Arrival y)) (hears p x r e) ∙ hears (with_node p (hear p.dispatcher x)) y r f
+    two_frames x y x_fine y_fine =
+        let either = fine_either p.dispatcher time x y x_fine y_fine in
+        ap (λ s. follow_one s (time, Arrival y)) (hears p x r x_fine)
+        ∙ hears (with_node p (hear p.dispatcher x)) y r y_fine
         ∙ ap (λ d. lawful (with_node p d)) (hear_either p.dispatcher x y)
-        ∙ sym (ap (λ s. follow_one s (time, Arrival x)) (hears p y r q.0)
-        ∙ hears (with_node p (hear p.dispatcher y)) x r q.1)
+        ∙ sym (ap (λ s. follow_one s (time, Arrival x)) (hears p y r either.0)
+        ∙ hears (with_node p (hear p.dispatcher y)) x r either.1)
 
     -- a frame `x` and an end `y` lead to the same in either order
     frame_and_end : (x : Frame) (y : Ended) → is_strange p.dispatcher time x ≡ false →
         may_end p.dispatcher time y ≡ true →
         follow_one (follow_one (lawful p) (time, Arrival x)) (time, end_of y)
         ≡ follow_one (follow_one (lawful p) (time, end_of y)) (time, Arrival x)
-    frame_and_end x y e f =
-        ap (λ s. follow_one s (time, end_of y)) (hears p x r e) ∙ notes (with_node p (hear p.dispatcher x)) y r f
-        ∙ sym (ap (λ s. follow_one s (time, Arrival x)) (notes p y r f)
-        ∙ hears (with_node p (finished p.dispatcher y)) x (still_ready p.dispatcher y r) e)
+    frame_and_end x y x_fine y_fine =
+        ap (λ s. follow_one s (time, end_of y)) (hears p x r x_fine)
+        ∙ notes (with_node p (hear p.dispatcher x)) y r y_fine
+        ∙ sym (ap (λ s. follow_one s (time, Arrival x)) (notes p y r y_fine)
+        ∙ hears (with_node p (finished p.dispatcher y)) x (still_ready p.dispatcher y r) x_fine)
 
     -- two ends lead to the same in either order: they are of different processes, since a process reports once
     -- (`not_again`), and so may be noted in either order (`swap`)
     two_ends : (x y : Ended) → may_end p.dispatcher time x ≡ true → may_end (finished p.dispatcher x) time y ≡ true →
         follow_one (follow_one (lawful p) (time, end_of x)) (time, end_of y)
         ≡ follow_one (follow_one (lawful p) (time, end_of y)) (time, end_of x)
-    two_ends x y e f = elim (cases_eq x.process y.process) [
-      | inl same ↦ absurd (not_again p.dispatcher x y same f)
+    two_ends x y x_fine y_fine = elim (cases_eq x.process y.process) [
+      | inl same ↦ absurd (not_again p.dispatcher x y same y_fine)
       | inr ne ↦
-          let first : may_end p.dispatcher time y ≡ true = sym (may_still p.dispatcher x y ne) ∙ f in
+          let first : may_end p.dispatcher time y ≡ true = sym (may_still p.dispatcher x y ne) ∙ y_fine in
           let second : may_end (finished p.dispatcher y) time x ≡ true =
-          may_still p.dispatcher y x (λ s. ne (sym s)) ∙ e in
-          ap (λ s. follow_one s (time, end_of y)) (notes p x r e)
-          ∙ notes (with_node p (finished p.dispatcher x)) y (still_ready p.dispatcher x r) f
+          may_still p.dispatcher y x (λ s. ne (sym s)) ∙ x_fine in
+          ap (λ s. follow_one s (time, end_of y)) (notes p x r x_fine)
+          ∙ notes (with_node p (finished p.dispatcher x)) y (still_ready p.dispatcher x r) y_fine
           ∙ ap (λ d. lawful (with_node p d)) (swap p.dispatcher x y ne)
           ∙ sym (ap (λ s. follow_one s (time, end_of x)) (notes p y r first)
           ∙ notes (with_node p (finished p.dispatcher y)) x (still_ready p.dispatcher y r) second)
     ]
 
     -- Two events lead to the same in either order, on a node that is ready.
-    -- By the kinds of both events: two frames, a frame and an end, or two ends. A close is excluded by `o` and `q`.
+    -- By the kinds of both events: two frames, a frame and an end, or two ends. A close is excluded by `x_open` and
+    -- `y_open`; `x_free` and `y_free`: neither event meets a fault.
     ready_swap : (a b : Event) → is_close a ≡ false → is_close b ≡ false →
         (follow_one (lawful p) (time, a)).fault ≡ None →
         (follow_one (follow_one (lawful p) (time, a)) (time, b)).fault ≡ None →
         follow_one (follow_one (lawful p) (time, a)) (time, b) ≡ follow_one (follow_one (lawful p) (time, b)) (time, a)
     -- two frames: neither is strange
-    ready_swap (Arrival x) (Arrival y) o q e f =
-        let one = hears_fine p x r e in
+    ready_swap (Arrival x) (Arrival y) x_open y_open x_free y_free =
+        let one = hears_fine p x r x_free in
         two_frames x y one (hears_fine (with_node p (hear p.dispatcher x)) y r
-        (sym (ap (λ s. (follow_one s (time, Arrival y)).fault) (hears p x r one)) ∙ f))
+        (sym (ap (λ s. (follow_one s (time, Arrival y)).fault) (hears p x r one)) ∙ y_free))
     -- a frame and then an end: the one isn't strange, and the other may be reported
-    ready_swap (Arrival x) (Ending process faults value) o q e f =
-        let one = hears_fine p x r e in
-        let y : Ended = record { process = process; faults = faults; value = value } in
-        frame_and_end x y one (notes_fine (with_node p (hear p.dispatcher x)) y r
-        (sym (ap (λ s. (follow_one s (time, end_of y)).fault) (hears p x r one)) ∙ f))
+    ready_swap (Arrival x) (Ending process faults value) x_open y_open x_free y_free =
+        let one = hears_fine p x r x_free in
+        let y_end : Ended = record { process = process; faults = faults; value = value } in
+        frame_and_end x y_end one (notes_fine (with_node p (hear p.dispatcher x)) y_end r
+        (sym (ap (λ s. (follow_one s (time, end_of y_end)).fault) (hears p x r one)) ∙ y_free))
     -- an end and then a frame: the one may be reported, and the other isn't strange
-    ready_swap (Ending process faults value) (Arrival y) o q e f =
-        let x : Ended = record { process = process; faults = faults; value = value } in
-        let one = notes_fine p x r e in
-        sym (frame_and_end y x (hears_fine (with_node p (finished p.dispatcher x)) y (still_ready p.dispatcher x r)
-        (sym (ap (λ s. (follow_one s (time, Arrival y)).fault) (notes p x r one)) ∙ f)) one)
+    ready_swap (Ending process faults value) (Arrival y) x_open y_open x_free y_free =
+        let x_end : Ended = record { process = process; faults = faults; value = value } in
+        let one = notes_fine p x_end r x_free in
+        sym (frame_and_end y x_end (hears_fine (with_node p (finished p.dispatcher x_end)) y
+        (still_ready p.dispatcher x_end r)
+        (sym (ap (λ s. (follow_one s (time, Arrival y)).fault) (notes p x_end r one)) ∙ y_free)) one)
     -- two ends: both may be reported
-    ready_swap (Ending process faults value) (Ending other count truth) o q e f =
-        let x : Ended = record { process = process; faults = faults; value = value } in
-        let y : Ended = record { process = other; faults = count; value = truth } in
-        let one = notes_fine p x r e in
-        two_ends x y one (notes_fine (with_node p (finished p.dispatcher x)) y (still_ready p.dispatcher x r)
-        (sym (ap (λ s. (follow_one s (time, end_of y)).fault) (notes p x r one)) ∙ f))
+    ready_swap (Ending process faults value) (Ending other count truth) x_open y_open x_free y_free =
+        let x_end : Ended = record { process = process; faults = faults; value = value } in
+        let y_end : Ended = record { process = other; faults = count; value = truth } in
+        let one = notes_fine p x_end r x_free in
+        two_ends x_end y_end one (notes_fine (with_node p (finished p.dispatcher x_end)) y_end
+        (still_ready p.dispatcher x_end r)
+        (sym (ap (λ s. (follow_one s (time, end_of y_end)).fault) (notes p x_end r one)) ∙ y_free))
     -- neither event is a close
-    ready_swap Close b o q e f = absurd (subst (λ b. cond b Unit ⊥) o tt)
-    ready_swap (Arrival x) Close o q e f = absurd (subst (λ b. cond b Unit ⊥) q tt)
-    ready_swap (Ending process faults value) Close o q e f = absurd (subst (λ b. cond b Unit ⊥) q tt)
+    ready_swap Close b x_open y_open x_free y_free = absurd (subst (λ b. cond b Unit ⊥) x_open tt)
+    ready_swap (Arrival x) Close x_open y_open x_free y_free = absurd (subst (λ b. cond b Unit ⊥) y_open tt)
+    ready_swap (Ending process faults value) Close x_open y_open x_free y_free =
+        absurd (subst (λ b. cond b Unit ⊥) y_open tt)
 
   -- Two events of one time lead to the same in either order.
   -- Both orders begin with the turns before the time, which make the node ready; then `ready_swap` closes it.
   event_swap : (p : NodeProgress) (a b : Event) → is_close a ≡ false → is_close b ≡ false →
       (follow_one (follow_one (lawful p) (time, a)) (time, b)).fault ≡ None →
       follow_one (follow_one (lawful p) (time, a)) (time, b) ≡ follow_one (follow_one (lawful p) (time, b)) (time, a)
-  event_swap p a b o q f =
-      let here : follow_one (lawful p) (time, a) ≡ follow_one (lawful (turned time p)) (time, a) = settled p a o in
+  event_swap p a b a_open b_open fault_free =
+      let here : follow_one (lawful p) (time, a) ≡ follow_one (lawful (turned time p)) (time, a) = settled p a a_open in
       let turned_first : follow_one (lawful p) (time, b) ≡ follow_one (lawful (turned time p)) (time, b) =
-      settled p b q in
+      settled p b b_open in
       let fine : (follow_one (follow_one (lawful (turned time p)) (time, a)) (time, b)).fault ≡ None =
-      sym (ap (λ s. (follow_one s (time, b)).fault) here) ∙ f in
+      sym (ap (λ s. (follow_one s (time, b)).fault) here) ∙ fault_free in
       let first = ap (λ (s : Step). s.fault)
       (lawful_front ((time, b) ∷ []) (follow_one (lawful (turned time p)) (time, a)) fine) in
-      ap (λ s. follow_one s (time, b)) here ∙ ready_swap (turned time p) (ready p) a b o q first fine
+      ap (λ s. follow_one s (time, b)) here ∙ ready_swap (turned time p) (ready p) a b a_open b_open first fine
       ∙ sym (ap (λ s. follow_one s (time, a)) turned_first)
 
 -- An event goes to the front of events of its time.
@@ -247,13 +255,13 @@ NotBefore from es = AllByRecursion (λ (e : ℕ × Event). from ≤ e.0) es
 
 -- events that aren't before a time aren't before an earlier one
 later : (from less : ℕ) (es : List (ℕ × Event)) → less ≤ from → NotBefore from es → NotBefore less es
-later from less [] le h = tt
-later from less (e ∷ es) le h = (omega (arith, le, h.0), later from less es le h.1)
+later from less [] le not_before = tt
+later from less (e ∷ es) le not_before = (omega (arith, le, not_before.0), later from less es le not_before.1)
 
 -- events `es` that rise from a time on aren't before it
 not_before : (from to : ℕ) (es : List (ℕ × Event)) → RiseWithin from to es → NotBefore from es
-not_before from to [] h = tt
-not_before from to (e ∷ es) h = (h.0, later e.0 from es h.0 (not_before e.0 to es h.2))
+not_before from to [] rise = tt
+not_before from to (e ∷ es) rise = (rise.0, later e.0 from es rise.0 (not_before e.0 to es rise.2))
 
 -- if `P` holds of event `f` and of all others, it holds of all with `f` in its place
 put_back : (P : ℕ × Event → Type 0) (f : ℕ × Event) → P f → (before after : List (ℕ × Event)) →
@@ -267,14 +275,14 @@ take_out : (P : ℕ × Event → Type 0) (f : ℕ × Event) (before after : List
     AllByRecursion P (before ++ f ∷ after) →
     P f × AllByRecursion P (before ++ after)
 take_out P f [] after k = k
-take_out P f (b ∷ before) after k = let r = take_out P f before after k.1 in (r.0, (k.0, r.1))
+take_out P f (b ∷ before) after k = let taken = take_out P f before after k.1 in (taken.0, (k.0, taken.1))
 
 -- if `P` holds of all events `es`, it holds of them in another order, `fs`
 pub all_of : (P : ℕ × Event → Type 0) (fs es : List (ℕ × Event)) → AreThoseOf fs es → AllByRecursion P es →
     AllByRecursion P fs
 all_of P [] es r h = tt
-all_of P (f ∷ fs) es r h = let q = take_out P f r.0 r.1 (subst (AllByRecursion P) r.2 h) in
-    (q.0, all_of P fs (r.0 ++ r.1) r.3 q.1)
+all_of P (f ∷ fs) es r h = let taken = take_out P f r.0 r.1 (subst (AllByRecursion P) r.2 h) in
+    (taken.0, all_of P fs (r.0 ++ r.1) r.3 taken.1)
 
 -- if `P` holds of all events in the order `fs`, it holds of them in the order `es`
 of_all : (P : ℕ × Event → Type 0) (fs es : List (ℕ × Event)) → AreThoseOf fs es → AllByRecursion P fs →

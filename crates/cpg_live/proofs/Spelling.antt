@@ -162,13 +162,13 @@ module _ (table : NodeTable) where
       take_record (state p taken time false) (event_bytes e)
       ≡ state (step e.0 e.1 p).progress (min (taken + 1) (2 ^ 64 - 1)) e.0 (is_close e.1)
   takes_one p taken time e same later small room fine =
-      let s : LiveState = state p taken time false in
-      ap (λ (r : Record). judged s r.time (event_of p.dispatcher.table r))
+      let before : LiveState = state p taken time false in
+      ap (λ (r : Record). judged before r.time (event_of p.dispatcher.table r))
       (numbers (record_with e.0 e.1) small (item_fits table e.1 room) (number_fits table e.1 room))
-      ∙ ap (λ t. judged s e.0 (event_of t (record_with e.0 e.1))) same
-      ∙ ap (judged s e.0) (told_back table e.0 e.1 room)
-      ∙ ap (λ b. cond b (refused s Order) (stepped s e.0 e.1 (step e.0 e.1 p))) (le-ltb e.0 time later)
-      ∙ ap (settled (record s { progress = (step e.0 e.1 p).progress }) e.0 e.1) fine
+      ∙ ap (λ t. judged before e.0 (event_of t (record_with e.0 e.1))) same
+      ∙ ap (judged before e.0) (told_back table e.0 e.1 room)
+      ∙ ap (λ b. cond b (refused before Order) (stepped before e.0 e.1 (step e.0 e.1 p))) (le-ltb e.0 time later)
+      ∙ ap (settled (record before { progress = (step e.0 e.1 p).progress }) e.0 e.1) fine
 
   -- an open stream, with node `p` and `taken` records so far, takes the bytes of lawful events `es` and a close as
   -- these events; by induction on the events: each is lawful as all are, and leaves an open state at its time
@@ -198,9 +198,9 @@ module _ (table : NodeTable) where
 -- the bytes that spell lawful events and a close are a lawful stream, which does what the events do
 pub bytes_spell : BytesSpellEvents
 bytes_spell table es close small rise room fine =
-    let q = takes_all table close small es (start table) 0 0 refl rise room fine in
+    let taken = takes_all table close small es (start table) 0 0 refl rise room fine in
     let is : after table (stream_bytes (closed_at es close))
-    ≡ state (follow (lawful (start table)) (closed_at es close)).progress q.0 close true =
+    ≡ state (follow (lawful (start table)) (closed_at es close)).progress taken.0 close true =
     ap (λ (c : Cut). with_rest (fold take_record (open_stream table) c.whole) c.rest)
-    (cut_records [] (closed_at es close)) ∙ ap (λ s. with_rest s []) q.1 in
+    (cut_records [] (closed_at es close)) ∙ ap (λ s. with_rest s []) taken.1 in
     record { ends = ap outcome is; comes = ap (λ (s : LiveState). s.progress) is }

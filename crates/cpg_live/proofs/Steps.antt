@@ -82,17 +82,17 @@ none_is (Some x) e = absurd (true≢false (sym e))
 -- be running
 pub unreported : (d : Dispatcher) (time : ℕ) (e : Ended) (o : Option Running) → may_end_now d time e o ≡ true →
     Unreported o time (time_of d e.process e.faults)
-unreported d time e None h = absurd (true≢false (sym h))
-unreported d time e (Some run) h =
-    let a = and_parts (is_none run.report && nat_lt run.start time)
-    (nat_le time (run.start + time_of d e.process e.faults)) h in
-    let b = and_parts (is_none run.report) (nat_lt run.start time) a.0 in
+unreported d time e None may = absurd (true≢false (sym may))
+unreported d time e (Some run) may =
+    let tests = and_parts (is_none run.report && nat_lt run.start time)
+    (nat_le time (run.start + time_of d e.process e.faults)) may in
+    let unreported_now = and_parts (is_none run.report) (nat_lt run.start time) tests.0 in
     record {
       run = run;
       runs = refl;
-      none = none_is run.report b.0;
-      started = ltb-true run.start time b.1;
-      in_time = leb-true time (run.start + time_of d e.process e.faults) a.1;
+      none = none_is run.report unreported_now.0;
+      started = ltb-true run.start time unreported_now.1;
+      in_time = leb-true time (run.start + time_of d e.process e.faults) tests.1;
     }
 
 -- without a condition the value has to be false
@@ -105,19 +105,19 @@ plain_is (Some c) value h e = absurd (none-some c (sym e))
 pub may_finish : (d : Dispatcher) (time : ℕ) (e : Ended) → IsTurned d time → is_after d.last time ≡ true →
     may_end d time e ≡ true →
     MayFinish d time e
-may_finish d time e before later h =
-    let tests = and_parts (may_tell d e) (may_end_now d time e (running_of d e.process)) h in
+may_finish d time e before later may =
+    let tests = and_parts (may_tell d e) (may_end_now d time e (running_of d e.process)) may in
     let told = and_parts (nat_le e.faults d.table.faults)
     (is_some (own_of d.table e.process).condition || not e.value) tests.0 in
-    let r = unreported d time e (running_of d e.process) tests.1 in
+    let execution = unreported d time e (running_of d e.process) tests.1 in
     record {
-      run = r.run;
-      runs = r.runs;
-      unreported = r.none;
+      run = execution.run;
+      runs = execution.runs;
+      unreported = execution.none;
       few = leb-true e.faults d.table.faults told.0;
       plain = plain_is (own_of d.table e.process).condition e.value told.1;
-      started = r.started;
-      in_time = r.in_time;
+      started = execution.started;
+      in_time = execution.in_time;
       later = later;
       before = before;
     }

@@ -30,20 +30,20 @@ use Rattle.cpg_live.specs.Streams.{stream_lines, IsClosed, IsRefused, IsCutOff, 
 -- if the bytes that were taken grew from `a` to `b` by a proper prefix of `p`, they grew by a proper prefix of `p ++ q`
 pub took_more : (a b : List ℕ) (p q : List ℕ) → TookPrefix a b p → TookPrefix a b (p ++ q)
 took_more a b p q took =
-    let n = took.0 in (
-      n,
+    let count = took.0 in (
+      count,
       omega (arith, took.1, length-append p q),
-      subst (Took a b) (sym (take-append-le n p q (omega (arith, took.1)))) took.2,
+      subst (Took a b) (sym (take-append-le count p q (omega (arith, took.1)))) took.2,
     )
 
 -- if the bytes that were taken grew from `a` to `b` by `p`, and then to `c` by a proper prefix of `q`, they grew from
 -- `a` to `c` by a proper prefix of `p ++ q`
 pub took_after : (a b c : List ℕ) (p q : List ℕ) → Took a b p → TookPrefix b c q → TookPrefix a c (p ++ q)
 took_after a b c p q whole took =
-    let n = took.0 in (
-      length p + n,
+    let count = took.0 in (
+      length p + count,
       omega (arith, took.1, length-append p q),
-      subst (Took a c) (sym (take-append-add p q n)) (Took-trans a b c p (take n q) whole took.2),
+      subst (Took a c) (sym (take-append-add p q count)) (Took-trans a b c p (take count q) whole took.2),
     )
 
 -- ---- more bytes of a stream
@@ -56,8 +56,8 @@ after_more table fed more = sym (feeds (after table fed) (take_bytes (after tabl
 pub acts_more : (table : NodeTable) (fed more : List ℕ) →
     Grows (after table fed).progress.acts (after table (fed ++ more)).progress.acts
 acts_more table fed more =
-    let g = bytes_grow (after table fed) more in
-    (g.0, ap (λ (s : LiveState). s.progress.acts) (after_more table fed more) ∙ g.1)
+    let grown = bytes_grow (after table fed) more in
+    (grown.0, ap (λ (s : LiveState). s.progress.acts) (after_more table fed more) ∙ grown.1)
 
 -- ---- how it ends
 
@@ -198,10 +198,10 @@ module _ (h : Head) (table : NodeTable) (fetch : Fetch) (sound : fetch.failed �
 pub cut_closed : (h : Head) (table : NodeTable) (fetch : Fetch) (a b : List ℕ) (lines : List ℕ) →
     IsClosed h table fetch lines → TookPrefix a b lines →
     IsCutOff h table fetch a b
-cut_closed h table fetch a b lines closed took = let s = closed.short in
+cut_closed h table fetch a b lines closed took = let short = closed.short in
     record {
       sound = closed.sound;
-      few = omega (arith, s);
+      few = omega (arith, short);
       front = subst (TookPrefix a b) closed.spelled took;
       so_far = inl closed.ended;
     }

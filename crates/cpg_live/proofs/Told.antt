@@ -141,24 +141,25 @@ module _ (time : ℕ) (acts : List Act) where
       MayReport d (after_last d.last) reports →
       AllFine (after_reports d reports) time frames →
       Told (follow (lawful p) (turn_events time reports frames)) (hear_all (after_reports d reports) frames)
-  tell_all p d reports frames h n may fine =
-      let soon : after_last d.last ≤ time = omega (arith, floor_after d.last time (next_is d time n).after) in
-      let one = tell_ends reports (after_last d.last) p d (come p d h n) n soon may in
-      let s : Step = follow (lawful p) (map end_event reports) in
-      let two = tell_frames frames one.from s.progress (after_reports d reports) one.hold one.comes one.within fine in
-      let joined : follow (lawful p) (turn_events time reports frames) ≡ follow s (map (frame_event time) frames) =
+  tell_all p d reports frames come_so_far comes may fine =
+      let soon : after_last d.last ≤ time = omega (arith, floor_after d.last time (next_is d time comes).after) in
+      let one = tell_ends reports (after_last d.last) p d (come p d come_so_far comes) comes soon may in
+      let ended : Step = follow (lawful p) (map end_event reports) in
+      let two =
+      tell_frames frames one.from ended.progress (after_reports d reports) one.hold one.comes one.within fine in
+      let joined : follow (lawful p) (turn_events time reports frames) ≡ follow ended (map (frame_event time) frames) =
       fold-append follow_one (lawful p) (map end_event reports) (map (frame_event time) frames) in
       subst (λ z. Told z (hear_all (after_reports d reports) frames)) (sym joined)
-      (subst (λ s. Told (follow s (map (frame_event time) frames)) (hear_all (after_reports d reports) frames))
-      (whole s one.fault) two)
+      (subst (λ ended. Told (follow ended (map (frame_event time) frames)) (hear_all (after_reports d reports) frames))
+      (whole ended one.fault) two)
 
   -- after a step without a fault the turn comes: of the turns below `time` + 1 only the one at `time` is left
   turn_comes : (s : Step) (d : Dispatcher) → Told s d → turned (time + 1) s.progress ≡ take_turn time (at d acts)
   unfolding Holds
-  turn_comes s d k =
+  turn_comes s d told =
       sym (further time time (time + 1) s.progress (omega arith))
-      ∙ ap (turned (time + 1)) (k.hold time k.within (omega arith))
-      ∙ sym (turned_next (time + 1) (at d acts) time (ap (instant_below (time + 1)) k.comes
+      ∙ ap (turned (time + 1)) (told.hold time told.within (omega arith))
+      ∙ sym (turned_next (time + 1) (at d acts) time (ap (instant_below (time + 1)) told.comes
       ∙ ap (λ c. cond c (Some time) None) (lt-ltb time (time + 1) (omega arith))))
       ∙ turned_last (time + 1) (take_turn time (at d acts)) past
     where
@@ -172,13 +173,13 @@ module _ (time : ℕ) (acts : List Act) where
 
 -- each turn of a node in a play is followed on the records of its reports and frames
 pub turns_are_followed : TurnsAreFollowed
-turns_are_followed p d acts time reports frames h n may fine fit =
-    let s : Step = follow (lawful p) (turn_events time reports frames) in
-    let k = tell_all time acts p d reports frames h n may fine in
+turns_are_followed p d acts time reports frames come_so_far n may fine fit =
+    let step : Step = follow (lawful p) (turn_events time reports frames) in
+    let told = tell_all time acts p d reports frames come_so_far n may fine in
     let law = hearing_first_is_the_same (after_reports d reports) time [] frames fine fit in
     record {
-      none = k.fault;
-      comes = turn_comes time acts s (hear_all (after_reports d reports) frames) k
+      none = told.fault;
+      comes = turn_comes time acts step (hear_all (after_reports d reports) frames) told
           ∙ ap₂ at law.0 (ap (λ (more : List Act). acts ++ more) law.1);
     }
 

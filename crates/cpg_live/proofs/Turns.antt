@@ -53,9 +53,10 @@ below_or_not limit (Some t) = elim (cases_lt t limit) [
 
 -- an instant that `instant_below` gives is the given one, and below the limit
 pub found_is : (limit : ℕ) (o : Option ℕ) (t : ℕ) → instant_below limit o ≡ Some t → (o ≡ Some t) × (t < limit)
-found_is limit o t e = elim (below_or_not limit o) [
-  | inl b ↦ let z : b.time ≡ t = same_Some b.time t (sym b.found ∙ e) in (b.is ∙ ap Some z, omega (arith, z, b.less))
-  | inr n ↦ absurd (none-some t (sym n.none ∙ e))
+found_is limit o t found = elim (below_or_not limit o) [
+  | inl below ↦ let same : below.time ≡ t = same_Some below.time t (sym below.found ∙ found) in
+      (below.is ∙ ap Some same, omega (arith, same, below.less))
+  | inr not_below ↦ absurd (none-some t (sym not_below.none ∙ found))
 ]
 
 -- if no instant of node `p` is below the limit, more turns, `n`, change nothing

@@ -22,42 +22,45 @@ pub act_parts : (g : Graph) (line digits text : List ℕ) (act : Logged) → IsP
     act.time < 2 ^ 60 → line ≡ act_line g act →
     (digits ≡ decimal act.time) ×
     (text ≡ act_text g act.item)
-act_parts g line digits text act p early e =
-    same_parts 32 digits (decimal act.time) text (act_text g act.item) p.first (decimal_spaceless act.time early)
-    (sym p.whole ∙ e ∙ spaced (decimal act.time) (act_text g act.item))
+act_parts g line digits text act parted early line_is =
+    same_parts 32 digits (decimal act.time) text (act_text g act.item) parted.first (decimal_spaceless act.time early)
+    (sym parted.whole ∙ line_is ∙ spaced (decimal act.time) (act_text g act.item))
 
 -- if a line is parted at its first blank and is a first line, its parts are the word and the time
 pub until_parts : (line word digits : List ℕ) (until : ℕ) → IsParted 32 line word digits → line ≡ until_line until →
     (word ≡ codes "until") × (digits ≡ decimal until)
-until_parts line word digits until p e =
-    same_parts 32 word (codes "until") digits (decimal until) p.first refl (sym p.whole ∙ e)
+until_parts line word digits until parted line_is =
+    same_parts 32 word (codes "until") digits (decimal until) parted.first refl (sym parted.whole ∙ line_is)
 
 -- if acts don't name item x, no act of them is of x; by induction on the acts: if the first one were of x,
 -- `logged_time` would have its time
 unlogged : (ls : List Logged) (x : ℕ) → logged_time ls x ≡ None → (k : ℕ) (d : Logged) → k < length ls →
     (get_or ls k d).item ≢ x
-unlogged [] x e k d l = absurd (omega arith)
-unlogged (m ∷ ls) x e k d l = elim (cases_eq m.item x) [
+unlogged [] x none k d inside = absurd (omega arith)
+unlogged (m ∷ ls) x none k d inside = elim (cases_eq m.item x) [
   | inl is ↦
-      absurd (none-some m.time (sym e ∙ cond-true (m.item == x) (Some m.time) (logged_time ls x) (eq-eqb m.item x is)))
+      absurd (none-some m.time (sym none ∙ cond-true (m.item == x) (Some m.time) (logged_time ls x)
+      (eq-eqb m.item x is)))
   | inr other ↦
-      at (unlogged ls x (sym (cond-false (m.item == x) (Some m.time) (logged_time ls x) (ne_eqb m.item x other)) ∙ e))
-      other k l
+      at (unlogged ls x (sym (cond-false (m.item == x) (Some m.time) (logged_time ls x) (ne_eqb m.item x other))
+      ∙ none))
+      other k inside
 ]
   where
     -- no act of `m ∷ ls` is of item `x`: not the first, `m`, and not one at a later place
     at : ((j : ℕ) (f : Logged) → j < length ls → (get_or ls j f).item ≢ x) → m.item ≢ x → (k : ℕ) →
         k < length (m ∷ ls) →
         (get_or (m ∷ ls) k d).item ≢ x
-    at rest other zero l = other
-    at rest other (suc j) l = rest j d (omega arith)
+    at rest other zero inside = other
+    at rest other (suc j) inside = rest j d (omega arith)
 
 -- if `P` holds of each element of `xs` and of `y`, it holds of each element of `xs` with `y` at the end
 all_push : {X : Type 0} (P : X → Type 0) (xs : List X) (y : X) → All P xs → P y → All P (xs ++ y ∷ [])
-all_push P [] y h p zero d l = p
-all_push P [] y h p (suc k) d l = absurd (omega arith)
-all_push P (x ∷ xs) y h p zero d l = h 0 d (omega arith)
-all_push P (x ∷ xs) y h p (suc k) d l = all_push P xs y (λ j e m. h (suc j) e (omega arith)) p k d (omega arith)
+all_push P [] y each last zero d l = last
+all_push P [] y each last (suc k) d l = absurd (omega arith)
+all_push P (x ∷ xs) y each last zero d l = each 0 d (omega arith)
+all_push P (x ∷ xs) y each last (suc k) d l = all_push P xs y (λ j e m. each (suc j) e (omega arith)) last k d
+    (omega arith)
 
 -- a log that may go on with an act is still one with the act at the end
 pub log_more : (g : Graph) (log : Log) (act : Logged) → IsLog g log → MayGoOn g log act →
@@ -103,17 +106,18 @@ module _ (g : Graph) (ls : List (List ℕ)) (log : Log) (rest : List ℕ) (is : 
 
 -- if two lists of lines are equal, so are their first lines, `a` and `b`
 head_of_cons : (a b : List ℕ) (xs ys : List (List ℕ)) → a ∷ xs ≡ b ∷ ys → a ≡ b
-head_of_cons a b xs ys e = ap (λ zs. get_or zs 0 []) e
+head_of_cons a b xs ys same = ap (λ zs. get_or zs 0 []) same
 
 -- if there is no first line, or it says no time, line 0 is the first bad one: the lines of a log begin with such a line
 pub lack_bad : (g : Graph) (ls : List (List ℕ)) → LackTime ls → IsBadLine g ls 0
-lack_bad g ls lack = record { none = λ log is e. at ls lack log is.until e; before = λ some. absurd (some refl) }
+lack_bad g ls lack =
+    record { none = λ log is lines_are. at ls lack log is.until lines_are; before = λ some. absurd (some refl) }
   where
     -- the first line of a log says its time, and this one says none
     at : (ls : List (List ℕ)) → LackTime ls → (log : Log) → log.until < 2 ^ 60 → take (0 + 1) ls ≡ log_lines g log → ⊥
-    at [] lack log early e = let f = ap length e in omega (arith, f)
-    at (line ∷ rest) lack log early e =
-        lack log.until rest early (ap (λ l. l ∷ rest) (head_of_cons line (until_line log.until) _ _ e))
+    at [] lack log early lines_are = let lengths = ap length lines_are in omega (arith, lengths)
+    at (line ∷ rest) lack log early lines_are =
+        lack log.until rest early (ap (λ l. l ∷ rest) (head_of_cons line (until_line log.until) _ _ lines_are))
 
 -- given a graph whose nodes have well-formed names, and two times below 2^60
 module _ (g : Graph) (limits : IsWithinLimits g) (named : HaveNames g (item_count g)) (until later : ℕ)
@@ -124,16 +128,17 @@ module _ (g : Graph) (limits : IsWithinLimits g) (named : HaveNames g (item_coun
       map (act_line g) xs ≡ map (act_line g) ys ++ line ∷ [] →
       (l : Logged) × (xs ≡ ys ++ l ∷ []) ×
       (act_line g l ≡ line)
-  one_more [] [] by is e = absurd (let f = ap length e in omega (arith, f))
-  one_more [] (a ∷ ys) by is e = absurd (let f = ap length e in omega (arith, f))
-  one_more (b ∷ []) [] by is e = (b, refl, head_of_cons (act_line g b) line [] [] e)
-  one_more (b ∷ c ∷ xs) [] by is e = absurd (let f = ap length e in omega (arith, f))
-  one_more (b ∷ xs) (a ∷ ys) by is e =
+  one_more [] [] by is same_lines = absurd (let lengths = ap length same_lines in omega (arith, lengths))
+  one_more [] (a ∷ ys) by is same_lines = absurd (let lengths = ap length same_lines in omega (arith, lengths))
+  one_more (b ∷ []) [] by is same_lines = (b, refl, head_of_cons (act_line g b) line [] [] same_lines)
+  one_more (b ∷ c ∷ xs) [] by is same_lines = absurd (let lengths = ap length same_lines in omega (arith, lengths))
+  one_more (b ∷ xs) (a ∷ ys) by is same_lines =
       let same = same_line g limits named later until soon early b a (by 0 b (omega arith)) (is 0 a (omega arith))
-      (head_of_cons (act_line g b) (act_line g a) _ _ e) in
-      let r =
-      one_more xs ys (λ k d l. by (suc k) d (omega arith)) (λ k d l. is (suc k) d (omega arith)) (ap (drop 1) e) in
-      (r.0, (λ i. same i ∷ r.1 i), r.2)
+      (head_of_cons (act_line g b) (act_line g a) _ _ same_lines) in
+      let rest =
+      one_more xs ys (λ k d l. by (suc k) d (omega arith)) (λ k d l. is (suc k) d (omega arith))
+      (ap (drop 1) same_lines) in
+      (rest.0, (λ i. same i ∷ rest.1 i), rest.2)
 
 -- if no two acts are of one item, those before the last, `ls`, don't name its item; by induction on these: the first
 -- one and the last, `l`, are a pair, so they are of different items
@@ -160,12 +165,12 @@ module _ (g : Graph) (limits : IsWithinLimits g) (named : HaveNames g (item_coun
   pub line_strange : (place : ℕ) → IsLineStrange g log rest place → IsBadLine g ls place
   line_strange place odd = record {
     none = λ other by e. strange other by (sym with_line ∙
-        ap (λ n. take n ls) (let n : length (log_lines g log ++ odd.line ∷ []) ≡ place + 1 =
-        omega (arith, odd.here, long, long_front (log_lines g log) (odd.line ∷ [])) in n) ∙ e);
+        ap (λ n. take n ls) (let count : length (log_lines g log ++ odd.line ∷ []) ≡ place + 1 =
+        omega (arith, odd.here, long, long_front (log_lines g log) (odd.line ∷ [])) in count) ∙ e);
     before = λ some. (
       log,
       is,
-      ap (λ n. take n ls) (let n : place ≡ length (log_lines g log) = omega (arith, odd.here, long) in n)
+      ap (λ n. take n ls) (let same : place ≡ length (log_lines g log) = omega (arith, odd.here, long) in same)
           ∙ ap (take (length (log_lines g log))) spelled ∙
           take_front (log_lines g log) (lines rest),
     );
@@ -186,28 +191,29 @@ module _ (g : Graph) (limits : IsWithinLimits g) (named : HaveNames g (item_coun
 
       -- no other log has these lines: it would have the same time and acts, and one act more, of the odd line
       strange : (other : Log) → IsLog g other → log_lines g log ++ odd.line ∷ [] ≡ log_lines g other → ⊥
-      strange other by e =
+      strange other by same_lines =
           let until = decimal_injective log.until other.until (omega (arith, is.until)) (omega (arith, by.until))
-          (ap (drop 6) (head_of_cons (until_line log.until) (until_line other.until) _ _ e)) in
-          let r = one_more g limits named log.until other.until is.until by.until odd.line other.acts log.acts by.acts
-          is.acts (sym (ap (drop 1) e)) in
-          let last = All-contains (IsActBy g other.until) other.acts r.0 by.acts
-          (subst (λ xs. Contains xs r.0) (sym r.1) (Contains-push log.acts r.0)) in
-          odd.strange r.0 (record {
+          (ap (drop 6) (head_of_cons (until_line log.until) (until_line other.until) _ _ same_lines)) in
+          let more =
+          one_more g limits named log.until other.until is.until by.until odd.line other.acts log.acts by.acts
+          is.acts (sym (ap (drop 1) same_lines)) in
+          let last = All-contains (IsActBy g other.until) other.acts more.0 by.acts
+          (subst (λ xs. Contains xs more.0) (sym more.1) (Contains-push log.acts more.0)) in
+          odd.strange more.0 (record {
             act = record { item = last.item; time = omega (arith, last.time, until) };
-            new = before_last log.acts r.0 (subst (AllPairs (λ (a b : Logged). a.item ≢ b.item)) r.1 by.apart);
-          }) (sym r.2)
+            new = before_last log.acts more.0 (subst (AllPairs (λ (a b : Logged). a.item ≢ b.item)) more.1 by.apart);
+          }) (sym more.2)
 
 -- ---- a log's file has no bad line
 
 -- if no two acts of `ls` are of one item, no two of the first `n` are
 apart_take : (ls : List Logged) (n : ℕ) → AllPairs (λ (a b : Logged). a.item ≢ b.item) ls →
     AllPairs (λ (a b : Logged). a.item ≢ b.item) (take n ls)
-apart_take ls n pairs i j d a b e =
+apart_take ls n pairs i j d ordered inside same_item =
     let long = length-take n ls in
-    pairs i j d a (omega (arith, long, b))
-    (sym (ap (λ (l : Logged). l.item) (get_or-take n ls i d (omega (arith, long, a, b)))) ∙ e ∙
-    ap (λ (l : Logged). l.item) (get_or-take n ls j d (omega (arith, long, b))))
+    pairs i j d ordered (omega (arith, long, inside))
+    (sym (ap (λ (l : Logged). l.item) (get_or-take n ls i d (omega (arith, long, ordered, inside)))) ∙ same_item ∙
+    ap (λ (l : Logged). l.item) (get_or-take n ls j d (omega (arith, long, inside))))
 
 -- a file that is a log's has no bad line: any first lines of it are those of the log with the first acts only
 pub no_bad_line : (g : Graph) (bytes : List ℕ) (log : Log) → IsLogOf g bytes log → (n : ℕ) →
@@ -218,5 +224,5 @@ no_bad_line g bytes log is n bad = bad.none (record { until = log.until; acts = 
       acts = All-take (IsActBy g log.until) n log.acts is.lawful.acts;
       apart = apart_take log.acts n is.lawful.apart;
     })
-    (ap (λ m. take m (lines bytes)) (let m : n + 1 ≡ suc n = omega arith in m) ∙ ap (take (suc n)) is.spelled
+    (ap (λ m. take m (lines bytes)) (let same : n + 1 ≡ suc n = omega arith in same) ∙ ap (take (suc n)) is.spelled
     ∙ ap (λ xs. until_line log.until ∷ xs) (take-map (act_line g) n log.acts))

@@ -12,21 +12,22 @@ use Rattle.cpg_merging.specs.Totals.{HasNoPartner}
 abbrev pub AllAtZero : List Literal → Type 0
 AllAtZero ls = list_all (λ (l : Literal). l.low == 0) ls ≡ true
 
--- that each literal of the list begins at 0, said of one of them
+-- if each literal of a list begins at 0, so does any one of them
 pub zero_in : (ls : List Literal) → AllAtZero ls → (l : Literal) → Contains ls l → l.low ≡ 0
 -- by induction on the list
-zero_in [] h l c = absurd (Contains-nil l c)
-zero_in (m ∷ ls) h l c =
-    let parts = and_parts (m.low == 0) (list_all (λ (x : Literal). x.low == 0) ls) h in
-    elim (Contains-cases m ls l c) [
-      | inl e ↦ subst (λ (x : Literal). x.low ≡ 0) e (eqb-true m.low 0 parts.0)
-      | inr d ↦ zero_in ls parts.1 l d
+zero_in [] all_zero l member = absurd (Contains-nil l member)
+zero_in (m ∷ ls) all_zero l member =
+    let parts = and_parts (m.low == 0) (list_all (λ (x : Literal). x.low == 0) ls) all_zero in
+    elim (Contains-cases m ls l member) [
+      | inl is_m ↦ subst (λ (x : Literal). x.low ≡ 0) is_m (eqb-true m.low 0 parts.0)
+      | inr in_rest ↦ zero_in ls parts.1 l in_rest
     ]
 
 -- a literal that begins at 0 has no partner: no range ends before it
 pub none_before : (sums : List ℕ) (total : ℕ) (ls : List Literal) → AllAtZero ls → (l : Literal) → Contains ls l →
     HasNoPartner sums total l
-none_before sums total ls h l c low rest lt e there = absurd (omega (arith, zero_in ls h l c, lt))
+none_before sums total ls all_zero l member low rest less e there =
+    absurd (omega (arith, zero_in ls all_zero l member, less))
 
 -- If a block of the literals that are left is marked, each literal is among those left behind the block, or marked.
 -- `P` says that a literal is marked so far, `Q` that it is marked then.
@@ -36,7 +37,7 @@ pub marked_on : (P : Literal → Type 0) (Q : Literal → Type 0) (all left bloc
     ((l : Literal) → Contains all l → Contains left l ⊎ P l)
     → (l : Literal) → Contains all l → Contains rest l ⊎ Q l
 -- a literal is in the block, behind it, or marked before
-marked_on P Q all left block rest is kept here before l c = elim (before l c) [
+marked_on P Q all left block rest is kept here before l member = elim (before l member) [
   | inl there ↦ elim (Contains-append_cases block rest l (subst (λ ls. Contains ls l) is there)) [
     | inl now ↦ inr (here l now)
     | inr later ↦ inl later
@@ -48,4 +49,4 @@ marked_on P Q all left block rest is kept here before l c = elim (before l c) [
 pub all_marked : (P : Literal → Type 0) (all left : List Literal) →
     ((l : Literal) → Contains all l → Contains left l ⊎ P l) → ((l : Literal) → Contains left l → P l) → (l : Literal) →
     Contains all l → P l
-all_marked P all left before here l c = elim (before l c) [ inl there ↦ here l there | inr done ↦ done ]
+all_marked P all left before here l member = elim (before l member) [ inl there ↦ here l there | inr done ↦ done ]

@@ -33,7 +33,8 @@ agree_on : (ns : List ℕ) → DoNotFall ns → NeighboursAgree ns (length ns) �
     get_or ns i 0 / 256 ≡ get_or ns (i + d) 0 / 256 →
     get_or ns i 0 ≡ get_or ns (i + d) 0
 -- by induction on the distance: as the numbers don't fall, the next one has the same time
-agree_on ns up near zero i within same = let e : i ≡ i + zero = omega arith in ap (λ (x : ℕ). get_or ns x 0) e
+agree_on ns up near zero i within same = let same_place : i ≡ i + zero = omega arith in
+    ap (λ (x : ℕ). get_or ns x 0) same_place
 agree_on ns up near (suc d) i within same =
     let first : get_or ns i 0 ≤ get_or ns (i + 1) 0 = up i (i + 1) (omega arith) (omega (arith, within)) in
     let last : get_or ns (i + 1) 0 ≤ get_or ns (i + suc d) 0 = up (i + 1) (i + suc d) (omega arith) within in
@@ -46,33 +47,36 @@ agree_on ns up near (suc d) i within same =
 
 -- if all neighbours of one time are equal, all numbers of one time are
 pub all_agree : (ns : List ℕ) → DoNotFall ns → NeighboursAgree ns (length ns) → AgreeByTime ns
-all_agree ns up near m n a b same =
-    let e : get_or ns a.0 0 ≡ m = sym (get_or_default ns a.0 m 0 a.1) ∙ a.2 in
-    let f : get_or ns b.0 0 ≡ n = sym (get_or_default ns b.0 n 0 b.1) ∙ b.2 in
-    elim (cases_lt a.0 b.0) [
-      | inl h ↦ sym e
-          ∙ at a.0 b.0 (omega (arith, h)) b.1 (ap (λ (x : ℕ). x / 256) e ∙ same ∙ sym (ap (λ (x : ℕ). x / 256) f)) ∙ f
-      | inr h ↦ sym e
-          ∙ sym (at b.0 a.0 h a.1 (ap (λ (x : ℕ). x / 256) f ∙ sym same ∙ sym (ap (λ (x : ℕ). x / 256) e))) ∙ f
+all_agree ns up near m n m_in n_in same =
+    let m_is : get_or ns m_in.0 0 ≡ m = sym (get_or_default ns m_in.0 m 0 m_in.1) ∙ m_in.2 in
+    let n_is : get_or ns n_in.0 0 ≡ n = sym (get_or_default ns n_in.0 n 0 n_in.1) ∙ n_in.2 in
+    elim (cases_lt m_in.0 n_in.0) [
+      | inl less ↦ sym m_is
+          ∙ at m_in.0 n_in.0 (omega (arith, less)) n_in.1
+          (ap (λ (x : ℕ). x / 256) m_is ∙ same ∙ sym (ap (λ (x : ℕ). x / 256) n_is)) ∙ n_is
+      | inr not_less ↦ sym m_is
+          ∙ sym (at n_in.0 m_in.0 not_less m_in.1
+          (ap (λ (x : ℕ). x / 256) n_is ∙ sym same ∙ sym (ap (λ (x : ℕ). x / 256) m_is))) ∙ n_is
     ]
   where
     -- two numbers of the list that are equal divided by 256 are equal, the one at the lesser place given first
     at : (i j : ℕ) → i ≤ j → j < length ns → get_or ns i 0 / 256 ≡ get_or ns j 0 / 256 → get_or ns i 0 ≡ get_or ns j 0
-    at i j h within k =
-        let is : i + (j - i) ≡ j = omega (arith, h) in
-        subst (λ (x : ℕ). get_or ns i 0 ≡ get_or ns x 0) is (agree_on ns up near (j - i) i (omega (arith, h, within))
-        (k ∙ ap (λ (x : ℕ). get_or ns x 0 / 256) (sym is)))
+    at i j not_above within one_time =
+        let is : i + (j - i) ≡ j = omega (arith, not_above) in
+        subst (λ (x : ℕ). get_or ns i 0 ≡ get_or ns x 0) is
+        (agree_on ns up near (j - i) i (omega (arith, not_above, within))
+        (one_time ∙ ap (λ (x : ℕ). get_or ns x 0 / 256) (sym is)))
 
 -- ---- columns that touch
 
 -- demands of one time that are equal ask the same
 same_asked : (t a b : ℕ) → a < 256 → b < 256 → (t * 256 % 2 ^ 64 + a) % 2 ^ 64 ≡ (t * 256 % 2 ^ 64 + b) % 2 ^ 64 → a ≡ b
-same_asked t a b h k e = omega (arith, h, k, e)
+same_asked t a b a_byte b_byte same = omega (arith, a_byte, b_byte, same)
 
 -- demands of one time have the same time, whatever they ask
 same_time : (t a b : ℕ) → a < 256 → b < 256 →
     (t * 256 % 2 ^ 64 + a) % 2 ^ 64 / 256 ≡ (t * 256 % 2 ^ 64 + b) % 2 ^ 64 / 256
-same_time t a b h k = omega (arith, h, k)
+same_time t a b a_byte b_byte = omega (arith, a_byte, b_byte)
 
 -- given: a variable of the graph
 module _ (g : Graph) (few : process_count g ≤ 128) (faults : g.faults ≤ 8) (v : ℕ) (known : IsVariable g v) where
@@ -96,7 +100,7 @@ module _ (g : Graph) (few : process_count g ≤ 128) (faults : g.faults ≤ 8) (
       let next : high_in k c.cube v + 1 ≡ low_in d.cube v = touch.next in
       let low_c = low-le-high k c.cube good_c.met v in
       let low_d = low-le-high k d.cube good_d.met v in
-      let high_d = high_in-top k d.cube (λ i e l. (good_d.narrow i e l).1) v in
+      let high_d = high_in-top k d.cube (λ i e inside. (good_d.narrow i e inside).1) v in
       let lc : Contains c.cube (of_range k c.cube v) = spoken k c.cube v (inr (omega (arith, next, low_d, high_d))) in
       let ld : Contains d.cube (of_range k d.cube v) = spoken k d.cube v (inl (omega (arith, next))) in
       let sum_c : sum_by low_of c.cube ≡ sum_by low_of (without v c.cube) + low_in c.cube v =
@@ -113,27 +117,27 @@ module _ (g : Graph) (few : process_count g ≤ 128) (faults : g.faults ≤ 8) (
       apart : (t u a b w low high : ℕ) → t ≡ u → a ≡ w + low → b ≡ w + high → low < high → high ≤ 8
           → ((t * 256 % 2 ^ 64 + a % 256) % 2 ^ 64 / 256 ≡ (u * 256 % 2 ^ 64 + b % 256) % 2 ^ 64 / 256 →
           (t * 256 % 2 ^ 64 + a % 256) % 2 ^ 64 ≡ (u * 256 % 2 ^ 64 + b % 256) % 2 ^ 64) → ⊥
-      apart t u a b w low high e f h less small agree =
+      apart t u a b w low high one_time a_is b_is less small agree =
           let asked = same_asked t (a % 256) (b % 256) (omega arith) (omega arith)
           (agree (same_time t (a % 256) (b % 256) (omega arith) (omega arith)
-          ∙ ap (λ (x : ℕ). (x * 256 % 2 ^ 64 + b % 256) % 2 ^ 64 / 256) e) ∙
-          ap (λ (x : ℕ). (x * 256 % 2 ^ 64 + b % 256) % 2 ^ 64) (sym e)) in
-          omega (arith, asked, f, h, less, small)
+          ∙ ap (λ (x : ℕ). (x * 256 % 2 ^ 64 + b % 256) % 2 ^ 64 / 256) one_time) ∙
+          ap (λ (x : ℕ). (x * 256 % 2 ^ 64 + b % 256) % 2 ^ 64) (sym one_time)) in
+          omega (arith, asked, a_is, b_is, less, small)
 
   -- if no two demands of one time differ, no two columns of one time touch at v
   pub settled_by_demands : (xs : List Column) → AreGood g xs → AgreeByTime (map demand_of xs) →
       IsSettledOn g.faults v xs
-  settled_by_demands xs good agree c d m n e t =
-      touch_agree c d (All-contains (λ (x : Column). IsGood g x.cube) xs c good m)
-      (All-contains (λ (x : Column). IsGood g x.cube) xs d good n) e t
-      (agree (demand_of c) (demand_of d) (Contains-map demand_of xs c m) (Contains-map demand_of xs d n))
+  settled_by_demands xs good agree c d c_in d_in one_time touch =
+      touch_agree c d (All-contains (λ (x : Column). IsGood g x.cube) xs c good c_in)
+      (All-contains (λ (x : Column). IsGood g x.cube) xs d good d_in) one_time touch
+      (agree (demand_of c) (demand_of d) (Contains-map demand_of xs c c_in) (Contains-map demand_of xs d d_in))
 
 -- whether the demands of one time are equal doesn't depend on their order
 pub agree_sorted : (ns sorted : List ℕ) → IsPermutation ns sorted → AgreeByTime sorted → AgreeByTime ns
-agree_sorted ns sorted p h m n c d same =
-    h m n (Contains-permutation ns sorted m p c) (Contains-permutation ns sorted n p d) same
+agree_sorted ns sorted permuted agree m n m_in n_in same =
+    agree m n (Contains-permutation ns sorted m permuted m_in) (Contains-permutation ns sorted n permuted n_in) same
 
--- what holds on false, if something weaker is wanted
+-- if P gives Q, and P holds if b is false, Q holds if b is false
 pub off_weaker : {P Q : Type 0} (b : Bool) → (P → Q) → OnFalse b P → OnFalse b Q
-off_weaker true f h = h
-off_weaker false f h = f h
+off_weaker true f holds = holds
+off_weaker false f holds = f holds

@@ -20,29 +20,29 @@ use Rattle.cpg_cube.proofs.Ranges.{same_literal}
 
 -- if one comparison and then another come out equal, each of them does
 pub then_equal : (o r : Ordering) → ordering_then o r ≡ Equal → (o ≡ Equal) × (r ≡ Equal)
-then_equal Less r h = cc
-then_equal Equal r h = (refl, h)
-then_equal Greater r h = cc
+then_equal Less r equal = cc
+then_equal Equal r equal = (refl, equal)
+then_equal Greater r equal = cc
 
 -- if the two in turn don't come out less, the first doesn't
 pub then_not_less : (o r : Ordering) → is_lt (ordering_then o r) ≡ false → is_lt o ≡ false
-then_not_less Less r h = h
-then_not_less Equal r h = refl
-then_not_less Greater r h = refl
+then_not_less Less r not_less = not_less
+then_not_less Equal r not_less = refl
+then_not_less Greater r not_less = refl
 
 -- an ordering that is tested to be equal is Equal
 pub equal_from : (o : Ordering) → is_eq o ≡ true → o ≡ Equal
-equal_from Less h = cc
-equal_from Equal h = refl
-equal_from Greater h = cc
+equal_from Less is_equal = cc
+equal_from Equal is_equal = refl
+equal_from Greater is_equal = cc
 
 -- numbers that compare equal are the same
 pub number_equal : (x y : ℕ) → nat_cmp x y ≡ Equal → x ≡ y
-number_equal x y e = ranked x y Equal (sym e)
+number_equal x y equal = ranked x y Equal (sym equal)
 
 -- if y doesn't compare as less than x, x is at most y
 pub not_less-le : (x y : ℕ) → is_lt (nat_cmp y x) ≡ false → x ≤ y
-not_less-le x y h = grind (arith, common_steps)
+not_less-le x y not_less = grind (arith, common_steps)
 
 -- ---- the orders are total, and what ties is equal
 
@@ -53,20 +53,20 @@ literal_total = then_total (on_total (λ (l : Literal). l.variable) nat_cmp_tota
 
 -- literals that compare as equal are equal
 literal_equal : (l m : Literal) → literal_cmp l m ≡ Equal → l ≡ m
-literal_equal l m h =
-    let a =
-    then_equal (nat_cmp l.variable m.variable) (ordering_then (nat_cmp l.low m.low) (nat_cmp l.high m.high)) h in
-    let b = then_equal (nat_cmp l.low m.low) (nat_cmp l.high m.high) a.1 in
-    same_literal l m (number_equal l.variable m.variable a.0) (number_equal l.low m.low b.0)
-    (number_equal l.high m.high b.1)
+literal_equal l m equal =
+    let parts =
+    then_equal (nat_cmp l.variable m.variable) (ordering_then (nat_cmp l.low m.low) (nat_cmp l.high m.high)) equal in
+    let range_parts = then_equal (nat_cmp l.low m.low) (nat_cmp l.high m.high) parts.1 in
+    same_literal l m (number_equal l.variable m.variable parts.0) (number_equal l.low m.low range_parts.0)
+    (number_equal l.high m.high range_parts.1)
 
 -- if the lists of literals xs and ys compare as equal, they are equal
 literals_equal : (xs ys : List Literal) → slice_cmp literal_cmp xs ys ≡ Equal → xs ≡ ys
-literals_equal [] [] h = refl
-literals_equal [] (y ∷ ys) h = cc
-literals_equal (x ∷ xs) [] h = cc
-literals_equal (x ∷ xs) (y ∷ ys) h = let r = then_equal (literal_cmp x y) (slice_cmp literal_cmp xs ys) h in
-    ap₂ ◌∷◌ (literal_equal x y r.0) (literals_equal xs ys r.1)
+literals_equal [] [] equal = refl
+literals_equal [] (y ∷ ys) equal = cc
+literals_equal (x ∷ xs) [] equal = cc
+literals_equal (x ∷ xs) (y ∷ ys) equal = let parts = then_equal (literal_cmp x y) (slice_cmp literal_cmp xs ys) equal in
+    ap₂ ◌∷◌ (literal_equal x y parts.0) (literals_equal xs ys parts.1)
 
 -- `v` is the variable at which columns are merged
 module _ (v : ℕ) where
@@ -82,36 +82,38 @@ module _ (v : ℕ) where
   -- columns that tie beside v have one time and the same literals on other variables
   pub beside_equal : (c d : Column) → beside_cmp v c d ≡ Equal →
       (c.time ≡ d.time) × (without v c.cube ≡ without v d.cube)
-  beside_equal c d h =
-      let r = then_equal (nat_cmp c.time d.time) (slice_cmp literal_cmp (without v c.cube) (without v d.cube)) h in
-      (number_equal c.time d.time r.0, literals_equal (without v c.cube) (without v d.cube) r.1)
+  beside_equal c d ties =
+      let parts = then_equal (nat_cmp c.time d.time)
+      (slice_cmp literal_cmp (without v c.cube) (without v d.cube)) ties in
+      (number_equal c.time d.time parts.0, literals_equal (without v c.cube) (without v d.cube) parts.1)
 
   -- columns of one time with the same literals on other variables tie beside v
   pub beside_from : (c d : Column) → c.time ≡ d.time → without v c.cube ≡ without v d.cube → beside_cmp v c d ≡ Equal
-  beside_from c d e f =
+  beside_from c d same_time same_literals =
       ap₂ (λ (t : ℕ) (ls : List Literal).
-      ordering_then (nat_cmp c.time t) (slice_cmp literal_cmp (without v c.cube) ls)) (sym e) (sym f)
+      ordering_then (nat_cmp c.time t) (slice_cmp literal_cmp (without v c.cube) ls)) (sym same_time)
+      (sym same_literals)
       ∙ tied_itself beside_total c
 
   -- a column that stands between two that tie beside v ties with the first
   pub between : (c d e : Column) → is_lt (beside_cmp v d c) ≡ false → is_lt (beside_cmp v e d) ≡ false →
       beside_cmp v c e ≡ Equal →
       beside_cmp v c d ≡ Equal
-  between c d e h i t = go (beside_cmp v c d) refl
+  between c d e d_not_before e_not_before ties = go (beside_cmp v c d) refl
     where
-      -- c doesn't come before d, since e would too, nor after it
+      -- c doesn't come before d, since e would too; nor does it come after d
       go : (o : Ordering) → beside_cmp v c d ≡ o → o ≡ Equal
-      go Equal k = refl
-      go Less k =
-          -- then the third would be before the second
-          let back : beside_cmp v e d ≡ Less = sym (beside_total.congr c e d t) ∙ k in
-          absurd (both_ways (is_lt (beside_cmp v e d)) i (ap is_lt back))
-      go Greater k =
-          let back : beside_cmp v d c ≡ Less = beside_total.antisymm d c ∙ ap ordering_reverse k in
-          absurd (both_ways (is_lt (beside_cmp v d c)) h (ap is_lt back))
+      go Equal compared = refl
+      go Less compared =
+          -- then e would come before d
+          let back : beside_cmp v e d ≡ Less = sym (beside_total.congr c e d ties) ∙ compared in
+          absurd (both_ways (is_lt (beside_cmp v e d)) e_not_before (ap is_lt back))
+      go Greater compared =
+          let back : beside_cmp v d c ≡ Less = beside_total.antisymm d c ∙ ap ordering_reverse compared in
+          absurd (both_ways (is_lt (beside_cmp v d c)) d_not_before (ap is_lt back))
 
   -- in sorted columns none comes before an earlier one
   pub sorted_pairs : (xs : List Column) → IsSortedBy (λ c d. is_lt (column_cmp v c d)) xs →
       AllPairs (λ c d. is_lt (column_cmp v d c) ≡ false) xs
-  sorted_pairs xs h = λ i j d l k. sorted_far (λ (x y : Column). is_lt (column_cmp v x y))
-      (ranks_by column_total (λ (c : Column). c)) xs h i j d (omega arith) k
+  sorted_pairs xs sorted = λ i j d less inside. sorted_far (λ (x y : Column). is_lt (column_cmp v x y))
+      (ranks_by column_total (λ (c : Column). c)) xs sorted i j d (omega arith) inside

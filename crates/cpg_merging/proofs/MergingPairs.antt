@@ -35,54 +35,57 @@ pub record IsGood (g : Graph) (literals : List Literal) : Type 0 where
 pub high_in-top : (k : ℕ) (ls : List Literal) → All (λ l. l.high ≤ top k l.variable) ls → (v : ℕ) →
     high_in k ls v ≤ top k v
 -- by induction on the literals: the first is on v, and gives the high, or the rest does
-high_in-top k [] h v = omega arith
-high_in-top k (l ∷ ls) h v = ⊎_elim
-    (λ (e : l.variable ≡ v). subst (λ u. high_in k (l ∷ ls) u ≤ top k u) e
-    (let i = high_in-here k l ls l.variable refl in
-    let t = All-head (λ (m : Literal). m.high ≤ top k m.variable) l ls h in
+high_in-top k [] within v = omega arith
+high_in-top k (l ∷ ls) within v = ⊎_elim
+    (λ (same : l.variable ≡ v). subst (λ u. high_in k (l ∷ ls) u ≤ top k u) same
+    (let high_is = high_in-here k l ls l.variable refl in
+    let below_top = All-head (λ (m : Literal). m.high ≤ top k m.variable) l ls within in
     omega arith))
-    (λ (n : l.variable ≢ v). let i = high_in-later k l ls v n in
-    let t = high_in-top k ls (All-tail (λ (m : Literal). m.high ≤ top k m.variable) l ls h) v in
+    (λ (other : l.variable ≢ v). let high_is = high_in-later k l ls v other in
+    let below_top = high_in-top k ls (All-tail (λ (m : Literal). m.high ≤ top k m.variable) l ls within) v in
     omega arith)
     (cases_eq l.variable v)
 
 -- a cube that some scenario matches has no empty range
 pub low-le-high : (k : ℕ) (cube : List Literal) → is_met k cube ≡ true → (v : ℕ) → low_in cube v ≤ high_in k cube v
-low-le-high k cube met v = low_in-high k cube v (λ l c.
-    let a = and_parts (list_all (is_open k) cube) (nat_le (asked_faults cube) k) met in
-    let o = from_all (is_open k) cube l a.0 c in
-    leb-true l.low l.high (and_parts (nat_le l.low l.high) (nat_le l.low (top k l.variable)) o).0)
+low-le-high k cube met v = low_in-high k cube v (λ l member.
+    let parts = and_parts (list_all (is_open k) cube) (nat_le (asked_faults cube) k) met in
+    let open_l = from_all (is_open k) cube l parts.0 member in
+    leb-true l.low l.high (and_parts (nat_le l.low l.high) (nat_le l.low (top k l.variable)) open_l).0)
 
--- each cube is as wide as itself
+-- each cube is at least as wide as itself
 pub wider_itself : (k : ℕ) (a : List Literal) → IsWider k a a
 wider_itself k a = λ v. (omega arith, omega arith)
 
--- if a is as wide as b, and b is as wide as c, a is as wide as c
+-- if a is at least as wide as b, and b as c, a is at least as wide as c
 pub wider_through : (k : ℕ) (a b c : List Literal) → IsWider k a b → IsWider k b c → IsWider k a c
-wider_through k a b c h i = λ v. let x = h v in let y = i v in (omega arith, omega arith)
+wider_through k a b c over_b over_c = λ v. let from_a = over_b v in let from_b = over_c v in (omega arith, omega arith)
 
 -- a cube without its literals of the whole range allows all that the cube does
 pub shorn_wider : (k : ℕ) (cube : List Literal) → IsRising cube → IsWider k (shorn k cube) cube
-shorn_wider k cube r = λ v. let a = shorn-low k cube r v in let b = shorn-high k cube r v in (omega arith, omega arith)
+shorn_wider k cube rises = λ v. let low_is = shorn-low k cube rises v in let high_is = shorn-high k cube rises v in
+    (omega arith, omega arith)
 
 -- a cube allows all that it does without its literals of the whole range
 pub wider_shorn : (k : ℕ) (cube : List Literal) → IsRising cube → IsWider k cube (shorn k cube)
-wider_shorn k cube r = λ v. let a = shorn-low k cube r v in let b = shorn-high k cube r v in (omega arith, omega arith)
+wider_shorn k cube rises = λ v. let low_is = shorn-low k cube rises v in let high_is = shorn-high k cube rises v in
+    (omega arith, omega arith)
 
 -- without its literals of the whole range a cube still rises
 pub shorn_rising : (k : ℕ) (cube : List Literal) → IsRising cube → IsRising (shorn k cube)
-shorn_rising k cube r = AllPairs-filter (λ (l m : Literal). l.variable < m.variable) (λ l. not (is_whole k l)) cube r
+shorn_rising k cube rises =
+    AllPairs-filter (λ (l m : Literal). l.variable < m.variable) (λ l. not (is_whole k l)) cube rises
 
 -- what holds of all literals of a cube holds of those that aren't of the whole range
 pub shorn_all : (k : ℕ) (P : Literal → Type 0) (cube : List Literal) → All P cube → All P (shorn k cube)
-shorn_all k P cube a = All-filter (λ l. not (is_whole k l)) P cube a
+shorn_all k P cube all = All-filter (λ l. not (is_whole k l)) P cube all
 
 -- a cube without its literals of the whole range has none that has the whole range of its variable or goes past it
 pub shorn_narrow : (k : ℕ) (cube : List Literal) → All (λ l. l.high ≤ top k l.variable) cube → IsNarrow k (shorn k cube)
-shorn_narrow k cube w =
-    All-from_each {P = λ l. (is_whole k l ≡ false) × (l.high ≤ top k l.variable)} (shorn k cube) (λ l c.
-    let r = Contains-filter_parts (λ m. not (is_whole k m)) cube l c in
-    (not-true (is_whole k l) r.1, All-contains (λ (m : Literal). m.high ≤ top k m.variable) cube l w r.0))
+shorn_narrow k cube within =
+    All-from_each {P = λ l. (is_whole k l ≡ false) × (l.high ≤ top k l.variable)} (shorn k cube) (λ l member.
+    let parts = Contains-filter_parts (λ m. not (is_whole k m)) cube l member in
+    (not-true (is_whole k l) parts.1, All-contains (λ (m : Literal). m.high ≤ top k m.variable) cube l within parts.0))
 
 -- given: a graph of at most 128 processes
 module _ (g : Graph) (few : process_count g ≤ 128) where
@@ -90,9 +93,9 @@ module _ (g : Graph) (few : process_count g ≤ 128) where
   pub matches_in_ranges : (cube : List Literal) (s : Scenario) → IsRising cube
       → ((l : Literal) → Contains cube l → (low_in cube l.variable ≤ number_of s l.variable) ×
       (number_of s l.variable ≤ high_in g.faults cube l.variable)) → matches cube s ≡ true
-  matches_in_ranges cube s r h = all_from (holds s) cube (λ l c.
-      let e = range_of_literal g.faults cube l r c in
-      let i = h l c in
+  matches_in_ranges cube s rises in_range = all_from (holds s) cube (λ l member.
+      let range_is = range_of_literal g.faults cube l rises member in
+      let number_in = in_range l member in
       holds-from s l (omega arith) (omega arith))
 
   -- if a cube matches a scenario, its range of each variable has the scenario's number
@@ -100,17 +103,18 @@ module _ (g : Graph) (few : process_count g ≤ 128) where
       IsVariable g v →
       (low_in cube v ≤ number_of s v) ×
       (number_of s v ≤ high_in g.faults cube v)
-  ranges_of_match cube s i t v known =
-      (low_in-le cube s v t, high_in-ge g.faults cube s v (number_within g few s i v known) t)
+  ranges_of_match cube s lawful matched v known =
+      (low_in-le cube s v matched, high_in-ge g.faults cube s v (number_within g few s lawful v known) matched)
 
   -- a cube that allows all that another one does matches what that one matches
   pub matches_wider : (a b : List Literal) (s : Scenario) → IsScenario g s → IsCube g a → IsWider g.faults a b →
       matches b s ≡ true →
       matches a s ≡ true
-  matches_wider a b s i is w t = matches_in_ranges a s is.rising (λ l c.
-      let r =
-      ranges_of_match b s i t l.variable (All-contains (λ (m : Literal). IsVariable g m.variable) a l is.known c) in
-      let x = w l.variable in
+  matches_wider a b s lawful is wider matched = matches_in_ranges a s is.rising (λ l member.
+      let number_in =
+      ranges_of_match b s lawful matched l.variable
+      (All-contains (λ (m : Literal). IsVariable g m.variable) a l is.known member) in
+      let wider_here = wider l.variable in
       (omega arith, omega arith))
 
   -- without its whole literals a cube is still one of the graph
@@ -123,18 +127,18 @@ module _ (g : Graph) (few : process_count g ≤ 128) where
   -- leaving out the whole literals leaves what a cube matches as it was
   pub matches_shorn : (cube : List Literal) (s : Scenario) → IsScenario g s → IsCube g cube →
       matches (shorn g.faults cube) s ≡ matches cube s
-  matches_shorn cube s i is = same_truth (matches (shorn g.faults cube) s) (matches cube s)
-      (matches_wider cube (shorn g.faults cube) s i is (wider_shorn g.faults cube is.rising))
-      (matches_wider (shorn g.faults cube) cube s i (cube_shorn cube is) (shorn_wider g.faults cube is.rising))
+  matches_shorn cube s lawful is = same_truth (matches (shorn g.faults cube) s) (matches cube s)
+      (matches_wider cube (shorn g.faults cube) s lawful is (wider_shorn g.faults cube is.rising))
+      (matches_wider (shorn g.faults cube) cube s lawful (cube_shorn cube is) (shorn_wider g.faults cube is.rising))
 
   -- a cube that scenario s matches is good without its whole literals
   pub good_shorn : (cube : List Literal) (s : Scenario) → IsScenario g s → matches cube s ≡ true → IsCube g cube →
       All (λ l. l.high ≤ top g.faults l.variable) cube →
       IsGood g (shorn g.faults cube)
-  good_shorn cube s i t is w = record {
+  good_shorn cube s lawful matched is within = record {
     cube = cube_shorn cube is;
-    narrow = shorn_narrow g.faults cube w;
-    met = met_by g few (shorn g.faults cube) (cube_shorn cube is) s i (matches_shorn cube s i is ∙ t);
+    narrow = shorn_narrow g.faults cube within;
+    met = met_by g few (shorn g.faults cube) (cube_shorn cube is) s lawful (matches_shorn cube s lawful is ∙ matched);
   }
 
   -- ---- two that touch
@@ -153,14 +157,16 @@ module _ (g : Graph) (few : process_count g ≤ 128) where
     -- no literal of a goes past the top of its variable
     within_a : All (λ l. l.high ≤ top g.faults l.variable) a
     within_a = All-from_each {P = λ l. l.high ≤ top g.faults l.variable} a
-        (λ l c. (All-contains (λ (m : Literal). (is_whole g.faults m ≡ false) × (m.high ≤ top g.faults m.variable)) a l
-        good_a.narrow c).1)
+        (λ l member. (All-contains
+        (λ (m : Literal). (is_whole g.faults m ≡ false) × (m.high ≤ top g.faults m.variable)) a l
+        good_a.narrow member).1)
 
     -- no literal of b goes past the top of its variable
     within_b : All (λ l. l.high ≤ top g.faults l.variable) b
     within_b = All-from_each {P = λ l. l.high ≤ top g.faults l.variable} b
-        (λ l c. (All-contains (λ (m : Literal). (is_whole g.faults m ≡ false) × (m.high ≤ top g.faults m.variable)) b l
-        good_b.narrow c).1)
+        (λ l member. (All-contains
+        (λ (m : Literal). (is_whole g.faults m ≡ false) × (m.high ≤ top g.faults m.variable)) b l
+        good_b.narrow member).1)
 
     -- no low of a is above its high
     open_a : (u : ℕ) → low_in a u ≤ high_in g.faults a u
@@ -185,34 +191,37 @@ module _ (g : Graph) (few : process_count g ≤ 128) where
 
     -- of each variable but v the two made one have the high of a
     pub both-high : (u : ℕ) → u ≢ v → high_in g.faults both u ≡ high_in g.faults a u
-    both-high u n = shorn-high g.faults wide rising_wide u ∙ raised-high v (high_in g.faults b v) g.faults a u n
+    both-high u other = shorn-high g.faults wide rising_wide u ∙ raised-high v (high_in g.faults b v) g.faults a u other
 
     -- of v the two made one have the high of b
     pub both-high_here : high_in g.faults both v ≡ high_in g.faults b v
     both-high_here = shorn-high g.faults wide rising_wide v ∙ raised-high_here v (high_in g.faults b v) g.faults a
-        (let t = touch.next in let o = open_b v in let h = high_in-top g.faults b within_b v in omega arith)
+        (let next_is = touch.next in let open_v = open_b v in let top_high = high_in-top g.faults b within_b v in
+        omega arith)
 
     -- the two made one allow all that a does
     pub wider_first : IsWider g.faults both a
     -- on v the high of the two made one is b's, which isn't below a's; on other variables they agree
-    wider_first = λ u. let l = both-low u in (
+    wider_first = λ u. let low_is = both-low u in (
       omega arith,
       ⊎_elim
-          (λ (e : u ≡ v). let h = both-high_here in
-          let t = touch.next in
-          let o = open_b v in
-          subst (λ w. high_in g.faults a w ≤ high_in g.faults both w) (sym e) (omega arith))
-          (λ (n : u ≢ v). let h = both-high u n in omega arith)
+          (λ (here : u ≡ v). let high_is = both-high_here in
+          let next_is = touch.next in
+          let open_v = open_b v in
+          subst (λ w. high_in g.faults a w ≤ high_in g.faults both w) (sym here) (omega arith))
+          (λ (other : u ≢ v). let high_is = both-high u other in omega arith)
           (cases_eq u v),
     )
 
     -- the two made one allow all that b does
     pub wider_second : IsWider g.faults both b
-    wider_second = λ u. let l = both-low u in ⊎_elim
-        (λ (e : u ≡ v). let h = both-high_here in let t = touch.next in let o = open_a v in let m = both-low v in
-        subst (λ w. (low_in both w ≤ low_in b w) × (high_in g.faults b w ≤ high_in g.faults both w)) (sym e)
+    wider_second = λ u. let low_is = both-low u in ⊎_elim
+        (λ (here : u ≡ v). let high_is = both-high_here in let next_is = touch.next in let open_v = open_a v in
+        let v_low = both-low v in
+        subst (λ w. (low_in both w ≤ low_in b w) × (high_in g.faults b w ≤ high_in g.faults both w)) (sym here)
         (omega arith, omega arith))
-        (λ (n : u ≢ v). let h = both-high u n in let o = touch.others u n in (omega arith, omega arith))
+        (λ (other : u ≢ v). let high_is = both-high u other in let same_range = touch.others u other in
+        (omega arith, omega arith))
         (cases_eq u v)
 
     -- the two made one are a cube of the graph
@@ -221,47 +230,50 @@ module _ (g : Graph) (few : process_count g ≤ 128) where
 
     -- no scenario matches both a and b: their ranges of v are apart
     pub apart : (s : Scenario) → IsScenario g s → IsVariable g v → matches a s ≡ true → matches b s ≡ true → ⊥
-    apart s i known x y =
-        let p = ranges_of_match a s i x v known in
-        let q = ranges_of_match b s i y v known in
-        let t = touch.next in omega arith
+    apart s lawful known matches_a matches_b =
+        let in_a = ranges_of_match a s lawful matches_a v known in
+        let in_b = ranges_of_match b s lawful matches_b v known in
+        let next_is = touch.next in omega arith
 
     -- a scenario that matches the two made one matches a or b, by whether its number of v is past a's high
     pub either : (s : Scenario) → IsScenario g s → IsVariable g v → matches both s ≡ true →
         (matches a s ≡ true) ⊎ (matches b s ≡ true)
-    either s i known x = ⊎_elim
+    either s lawful known matched = ⊎_elim
         -- past a's high the number is in b's range of v; all other ranges of b are those of the joined cube
-        (λ (l : high_in g.faults a v < number_of s v). inr (matches_in_ranges b s good_b.cube.rising (λ m c. ⊎_elim
-        (λ (e : m.variable ≡ v). let r = ranges_of_match both s i x v known in
-        let h = both-high_here in
-        let t = touch.next in
-        subst (λ w. (low_in b w ≤ number_of s w) × (number_of s w ≤ high_in g.faults b w)) (sym e)
+        (λ (past : high_in g.faults a v < number_of s v). inr
+        (matches_in_ranges b s good_b.cube.rising (λ m member. ⊎_elim
+        (λ (on_v : m.variable ≡ v). let number_in = ranges_of_match both s lawful matched v known in
+        let high_is = both-high_here in
+        let next_is = touch.next in
+        subst (λ w. (low_in b w ≤ number_of s w) × (number_of s w ≤ high_in g.faults b w)) (sym on_v)
         (omega arith, omega arith))
-        (λ (n : m.variable ≢ v). let r = ranges_of_match both s i x m.variable
-        (All-contains (λ (z : Literal). IsVariable g z.variable) b m good_b.cube.known c) in
-        let o = touch.others m.variable n in
-        let p = both-low m.variable in
-        let h = both-high m.variable n in
+        (λ (other : m.variable ≢ v). let number_in = ranges_of_match both s lawful matched m.variable
+        (All-contains (λ (z : Literal). IsVariable g z.variable) b m good_b.cube.known member) in
+        let same_range = touch.others m.variable other in
+        let low_is = both-low m.variable in
+        let high_is = both-high m.variable other in
         (omega arith, omega arith))
         (cases_eq m.variable v))))
         -- up to a's high it is in a's range of v, since the joined cube has a's low there
-        (λ (l : number_of s v ≤ high_in g.faults a v). inl (matches_in_ranges a s good_a.cube.rising (λ m c. ⊎_elim
-        (λ (e : m.variable ≡ v). let r = ranges_of_match both s i x v known in let p = both-low v in
-        subst (λ w. (low_in a w ≤ number_of s w) × (number_of s w ≤ high_in g.faults a w)) (sym e)
+        (λ (up_to : number_of s v ≤ high_in g.faults a v). inl
+        (matches_in_ranges a s good_a.cube.rising (λ m member. ⊎_elim
+        (λ (on_v : m.variable ≡ v). let number_in = ranges_of_match both s lawful matched v known in
+        let low_is = both-low v in
+        subst (λ w. (low_in a w ≤ number_of s w) × (number_of s w ≤ high_in g.faults a w)) (sym on_v)
         (omega arith, omega arith))
-        (λ (n : m.variable ≢ v). let r = ranges_of_match both s i x m.variable
-        (All-contains (λ (z : Literal). IsVariable g z.variable) a m good_a.cube.known c) in
-        let p = both-low m.variable in let h = both-high m.variable n in (omega arith, omega arith))
+        (λ (other : m.variable ≢ v). let number_in = ranges_of_match both s lawful matched m.variable
+        (All-contains (λ (z : Literal). IsVariable g z.variable) a m good_a.cube.known member) in
+        let low_is = both-low m.variable in let high_is = both-high m.variable other in (omega arith, omega arith))
         (cases_eq m.variable v))))
         (cases_lt (high_in g.faults a v) (number_of s v))
 
     -- the two made one match what a matches
     pub matches_first : (s : Scenario) → IsScenario g s → matches a s ≡ true → matches both s ≡ true
-    matches_first s i t = matches_wider both a s i cube_both wider_first t
+    matches_first s lawful matched = matches_wider both a s lawful cube_both wider_first matched
 
     -- the two made one match what b matches
     pub matches_second : (s : Scenario) → IsScenario g s → matches b s ≡ true → matches both s ≡ true
-    matches_second s i t = matches_wider both b s i cube_both wider_second t
+    matches_second s lawful matched = matches_wider both b s lawful cube_both wider_second matched
 
     -- the two made one are a good cube
     pub good_both : IsGood g both

@@ -41,35 +41,40 @@ module _ (g : Graph) (few : process_count g ≤ 128) where
   -- columns that may be merged, without literals of the whole range, are good
   pub good_of : (columns : List Column) → IsShorn g columns → AreGood g columns
   -- each part is a fact of the columns, and a cube that some scenario matches is met
-  good_of columns h = All-from_each {P = λ c. IsGood g c.cube} columns (λ c m.
-      let is = All-contains (λ (x : Column). IsCube g x.cube) columns c h.good.cubes m in
-      let w =
-      All-contains (λ (x : Column). All (λ l. l.high ≤ top g.faults l.variable) x.cube) columns c h.good.within m in
-      let n = All-contains (λ (x : Column). All (λ l. is_whole g.faults l ≡ false) x.cube) columns c h.not_whole m in
-      let r = All-contains (λ (x : Column). (s : Scenario) × IsScenario g s × (matches x.cube s ≡ true)) columns
-      c h.good.met m in
+  good_of columns is_shorn = All-from_each {P = λ c. IsGood g c.cube} columns (λ c member.
+      let is = All-contains (λ (x : Column). IsCube g x.cube) columns c is_shorn.good.cubes member in
+      let within =
+      All-contains (λ (x : Column). All (λ l. l.high ≤ top g.faults l.variable) x.cube) columns c
+      is_shorn.good.within member in
+      let not_whole = All-contains
+      (λ (x : Column). All (λ l. is_whole g.faults l ≡ false) x.cube) columns c is_shorn.not_whole member in
+      let matched = All-contains (λ (x : Column). (s : Scenario) × IsScenario g s × (matches x.cube s ≡ true)) columns
+      c is_shorn.good.met member in
       record {
         cube = is;
-        narrow = λ k d l. (n k d l, w k d l);
-        met = met_by g few c.cube is r.0 r.1 r.2;
+        narrow = λ k d inside. (not_whole k d inside, within k d inside);
+        met = met_by g few c.cube is matched.0 matched.1 matched.2;
       })
 
   -- good columns, of which no scenario matches two, may be merged and have no literals of the whole range
   pub shorn_of : (columns : List Column) → AreGood g columns → AreSingle g columns → IsShorn g columns
-  shorn_of columns h single = record {
+  shorn_of columns all_good single = record {
     good = record {
       -- cubes and variables are as in good columns
-      cubes = λ k d l. (h k d l).cube;
-      within = λ k d l i e m. ((h k d l).narrow i e m).1;
+      cubes = λ k d inside. (all_good k d inside).cube;
+      within = λ k d inside i e inside_cube. ((all_good k d inside).narrow i e inside_cube).1;
       -- the lows of a cube are a scenario that it matches
-      met = λ k d l.
-          let c = get_or columns k d in
-          let x = h k d l in
-          (lows g c.cube, lows-lawful g few c.cube x.cube x.met, lows-match g few c.cube x.cube x.met);
+      met = λ k d inside.
+          let column = get_or columns k d in
+          let good_k = all_good k d inside in (
+            lows g column.cube,
+            lows-lawful g few column.cube good_k.cube good_k.met,
+            lows-match g few column.cube good_k.cube good_k.met,
+          );
       apart = single;
     };
     -- no literal of a good column has the whole range
-    not_whole = λ k d l i e m. ((h k d l).narrow i e m).0;
+    not_whole = λ k d inside i e inside_cube. ((all_good k d inside).narrow i e inside_cube).0;
   }
 
   -- ---- the entries without their whole literals
@@ -82,51 +87,56 @@ module _ (g : Graph) (few : process_count g ≤ 128) where
   times_shorn : (columns : List Column) (s : Scenario) → IsScenario g s → All (λ c. IsCube g c.cube) columns →
       times_in (all_shorn g.faults columns) s ≡ times_in columns s
   -- by induction on the list
-  times_shorn [] s i is = refl
-  times_shorn (c ∷ cs) s i is = times_first (shorn_column c) (all_shorn g.faults cs) s
+  times_shorn [] s lawful is = refl
+  times_shorn (c ∷ cs) s lawful is = times_first (shorn_column c) (all_shorn g.faults cs) s
       ∙ ap₂ (λ m ts. cond m (c.time ∷ ts) ts)
-      (matches_shorn g few c.cube s i (All-head (λ (x : Column). IsCube g x.cube) c cs is))
-      (times_shorn cs s i (All-tail (λ (x : Column). IsCube g x.cube) c cs is))
+      (matches_shorn g few c.cube s lawful (All-head (λ (x : Column). IsCube g x.cube) c cs is))
+      (times_shorn cs s lawful (All-tail (λ (x : Column). IsCube g x.cube) c cs is))
       ∙ sym (times_first c cs s)
 
   -- the columns without their whole literals are a join of the columns
   pub joins_shorn : (columns : List Column) → AreMergeable g columns → IsJoinOf g columns (all_shorn g.faults columns)
-  joins_shorn columns h = record {
-    times = λ s i. times_shorn columns s i h.cubes;
-    held = λ e m. (
+  joins_shorn columns mergeable = record {
+    times = λ s lawful. times_shorn columns s lawful mergeable.cubes;
+    held = λ e member. (
       shorn_column e,
-      Contains-map shorn_column columns e m,
+      Contains-map shorn_column columns e member,
       refl,
-      shorn_wider g.faults e.cube (All-contains (λ (x : Column). IsCube g x.cube) columns e h.cubes m).rising,
+      shorn_wider g.faults e.cube
+          (All-contains (λ (x : Column). IsCube g x.cube) columns e mergeable.cubes member).rising,
     );
   }
 
   -- without their whole literals, columns may be merged, and have none of these
   pub shorn_columns : (columns : List Column) → AreMergeable g columns → IsShorn g (all_shorn g.faults columns)
-  shorn_columns columns h = shorn_of (all_shorn g.faults columns)
+  shorn_columns columns mergeable = shorn_of (all_shorn g.faults columns)
       (All-map (λ (x : Column). IsGood g x.cube) shorn_column columns
-      (All-from_each {P = λ c. IsGood g (shorn g.faults c.cube)} columns (λ c m.
-      let r = All-contains (λ (x : Column). (s : Scenario) × IsScenario g s × (matches x.cube s ≡ true))
-      columns c h.met m in
-      good_shorn g few c.cube r.0 r.1 r.2 (All-contains (λ (x : Column). IsCube g x.cube) columns c h.cubes m)
-      (All-contains (λ (x : Column). All (λ l. l.high ≤ top g.faults l.variable) x.cube) columns c h.within m))))
-      (λ s i. subst (λ ts. length ts ≤ 1) (sym (times_shorn columns s i h.cubes)) (h.apart s i))
+      (All-from_each {P = λ c. IsGood g (shorn g.faults c.cube)} columns (λ c member.
+      let matched = All-contains (λ (x : Column). (s : Scenario) × IsScenario g s × (matches x.cube s ≡ true))
+      columns c mergeable.met member in
+      good_shorn g few c.cube matched.0 matched.1 matched.2
+      (All-contains (λ (x : Column). IsCube g x.cube) columns c mergeable.cubes member)
+      (All-contains (λ (x : Column). All (λ l. l.high ≤ top g.faults l.variable) x.cube) columns c mergeable.within
+      member))))
+      (λ s lawful. subst (λ ts. length ts ≤ 1) (sym (times_shorn columns s lawful mergeable.cubes))
+      (mergeable.apart s lawful))
 
   -- ---- another order of columns of which at most one matches
 
   -- two lists of at most one number are equal if each has what the other has
   one_same : (xs ys : List ℕ) → length xs ≤ 1 → length ys ≤ 1 → ((x : ℕ) → Contains xs x → Contains ys x) →
       ((x : ℕ) → Contains ys x → Contains xs x) → xs ≡ ys
-  one_same [] [] h k f t = refl
-  one_same [] (y ∷ ys) h k f t = absurd (Contains-nil y (t y (Contains-first y ys)))
-  one_same (x ∷ xs) [] h k f t = absurd (Contains-nil x (f x (Contains-first x xs)))
-  one_same (x ∷ []) (y ∷ []) h k f t = ⊎_elim (λ (e : y ≡ x). ap (λ z. z ∷ []) (sym e))
-      (λ (n : Contains [] x). absurd (Contains-nil x n)) (Contains-cases y [] x (f x (Contains-first x [])))
-  one_same (x ∷ z ∷ xs) (y ∷ ys) h k f t = absurd (omega arith)
-  one_same (x ∷ []) (y ∷ z ∷ ys) h k f t = absurd (omega arith)
+  one_same [] [] few_xs few_ys to_ys to_xs = refl
+  one_same [] (y ∷ ys) few_xs few_ys to_ys to_xs = absurd (Contains-nil y (to_xs y (Contains-first y ys)))
+  one_same (x ∷ xs) [] few_xs few_ys to_ys to_xs = absurd (Contains-nil x (to_ys x (Contains-first x xs)))
+  one_same (x ∷ []) (y ∷ []) few_xs few_ys to_ys to_xs = ⊎_elim (λ (same : y ≡ x). ap (λ z. z ∷ []) (sym same))
+      (λ (in_none : Contains [] x). absurd (Contains-nil x in_none))
+      (Contains-cases y [] x (to_ys x (Contains-first x [])))
+  one_same (x ∷ z ∷ xs) (y ∷ ys) few_xs few_ys to_ys to_xs = absurd (omega arith)
+  one_same (x ∷ []) (y ∷ z ∷ ys) few_xs few_ys to_ys to_xs = absurd (omega arith)
 
   -- given: columns in another order
-  module _ (xs ys : List Column) (p : IsPermutation xs ys) where
+  module _ (xs ys : List Column) (permuted : IsPermutation xs ys) where
     -- a scenario has a time for each column that matches it
     length_times : (zs : List Column) (s : Scenario) →
         length (times_in zs s) ≡ sum_by (λ c. cond (matches c.cube s) 1 0) zs
@@ -135,38 +145,42 @@ module _ (g : Graph) (few : process_count g ≤ 128) where
 
     -- if no scenario matches two of the columns, none matches two of them in another order
     pub single_permuted : AreSingle g xs → AreSingle g ys
-    single_permuted h = λ s i.
-        let a = length_times xs s in
-        let b = length_times ys s in
-        let c = sum_by-IsPermutation (λ (c : Column). cond (matches c.cube s) 1 0) xs ys p in
-        let d = h s i in
+    single_permuted single = λ s lawful.
+        let xs_times = length_times xs s in
+        let ys_times = length_times ys s in
+        let same_sum = sum_by-IsPermutation (λ (c : Column). cond (matches c.cube s) 1 0) xs ys permuted in
+        let at_most_1 = single s lawful in
         omega arith
 
     -- good columns in another order are good
     pub good_permuted : AreGood g xs → AreGood g ys
-    good_permuted h = All-permutation (λ (x : Column). IsGood g x.cube) xs ys p h
+    good_permuted all_good = All-permutation (λ (x : Column). IsGood g x.cube) xs ys permuted all_good
 
   -- if t is a time that scenario s has in the columns `xs`, it has t in `ys` too, the same columns in another order
   times_permuted : (xs ys : List Column) → IsPermutation xs ys → (s : Scenario) (t : ℕ) → Contains (times_in xs s) t →
       Contains (times_in ys s) t
-  times_permuted xs ys p s t m =
-      let r = Contains-map_parts (λ (c : Column). c.time) (filter (λ (c : Column). matches c.cube s) xs) t m in
-      let q = Contains-filter_parts (λ (c : Column). matches c.cube s) xs r.0 r.1 in
-      subst (Contains (times_in ys s)) r.2
-      (Contains-map (λ (c : Column). c.time) (filter (λ (c : Column). matches c.cube s) ys) r.0
-      (Contains-filter (λ (c : Column). matches c.cube s) ys r.0 q.1 (Contains-permutation xs ys r.0 p q.0)))
+  times_permuted xs ys permuted s t member =
+      let mapped = Contains-map_parts (λ (c : Column). c.time)
+      (filter (λ (c : Column). matches c.cube s) xs) t member in
+      let filtered = Contains-filter_parts (λ (c : Column). matches c.cube s) xs mapped.0 mapped.1 in
+      subst (Contains (times_in ys s)) mapped.2
+      (Contains-map (λ (c : Column). c.time) (filter (λ (c : Column). matches c.cube s) ys) mapped.0
+      (Contains-filter (λ (c : Column). matches c.cube s) ys mapped.0 filtered.1
+      (Contains-permutation xs ys mapped.0 permuted filtered.0)))
 
   -- columns in another order are a join of them
   pub joins_permuted : (xs ys : List Column) → IsPermutation xs ys → AreSingle g xs → IsJoinOf g xs ys
-  joins_permuted xs ys p h = record {
-    times = λ s i. one_same (times_in ys s) (times_in xs s) (single_permuted xs ys p h s i) (h s i)
-        (times_permuted ys xs (IsPermutation-sym xs ys p) s) (times_permuted xs ys p s);
-    held = λ e m. (e, Contains-permutation xs ys e p m, refl, wider_itself g.faults e.cube);
+  joins_permuted xs ys permuted single = record {
+    times = λ s lawful. one_same (times_in ys s) (times_in xs s) (single_permuted xs ys permuted single s lawful)
+        (single s lawful)
+        (times_permuted ys xs (IsPermutation-sym xs ys permuted) s) (times_permuted xs ys permuted s);
+    held = λ e member. (e, Contains-permutation xs ys e permuted member, refl, wider_itself g.faults e.cube);
   }
 
   -- if no scenario matches two columns, none matches two of a join of them
   pub single_joined : (xs ys : List Column) → IsJoinOf g xs ys → AreSingle g xs → AreSingle g ys
-  single_joined xs ys j h = λ s i. subst (λ ts. length ts ≤ 1) (sym (j.times s i)) (h s i)
+  single_joined xs ys joins single =
+      λ s lawful. subst (λ ts. length ts ≤ 1) (sym (joins.times s lawful)) (single s lawful)
 
   -- ---- a step at one variable
 
@@ -176,35 +190,36 @@ module _ (g : Graph) (few : process_count g ≤ 128) where
       IsSortedBy (λ c d. is_lt (column_cmp v c d)) ys →
       IsPassed g (λ u. u ≡ v) xs (walked_over g.faults v ys)
   -- `go` takes the sorted columns apart: none, or a first one from which the walk goes on
-  passed_on v known xs ys h p up =
-      go ys p up (good_permuted xs ys p (good_of xs h)) (single_permuted xs ys p h.good.apart)
+  passed_on v known xs ys is_shorn permuted up =
+      go ys permuted up (good_permuted xs ys permuted (good_of xs is_shorn))
+      (single_permuted xs ys permuted is_shorn.good.apart)
     where
       -- the columns in sorted order are good, and at most one matches in each scenario, as they are a permutation
       go : (zs : List Column) → IsPermutation xs zs → IsSortedBy (λ c d. is_lt (column_cmp v c d)) zs → AreGood g zs →
           AreSingle g zs →
           IsPassed g (λ u. u ≡ v) xs (walked_over g.faults v zs)
-      go [] q s good single = record {
-        joins = joins_permuted xs [] q h.good.apart;
+      go [] permuted_zs sorted good single = record {
+        joins = joins_permuted xs [] permuted_zs is_shorn.good.apart;
         good = shorn_of [] good single;
-        fewer = inr (q, λ u e c d m n t k. Contains-nil c m);
+        fewer = inr (permuted_zs, λ u e c d in_none n t k. Contains-nil c in_none);
       }
       -- the walk gives a join of the columns: with fewer of them, or with the same ones, which are settled on v then
-      go (z ∷ zs) q s good single =
-          let w = walk g few v known z zs good in
-          let j = joins_permuted xs (z ∷ zs) q h.good.apart in
-          let n = length_permutation xs (z ∷ zs) q in
+      go (z ∷ zs) permuted_zs sorted good single =
+          let walked_is = walk g few v known z zs good in
+          let joins_z = joins_permuted xs (z ∷ zs) permuted_zs is_shorn.good.apart in
+          let same_length = length_permutation xs (z ∷ zs) permuted_zs in
           record {
-            joins = joins_through g xs (z ∷ zs) (walked g.faults v z zs) j w.joins;
-            good = shorn_of (walked g.faults v z zs) w.good
-                (single_joined (z ∷ zs) (walked g.faults v z zs) w.joins single);
+            joins = joins_through g xs (z ∷ zs) (walked g.faults v z zs) joins_z walked_is.joins;
+            good = shorn_of (walked g.faults v z zs) walked_is.good
+                (single_joined (z ∷ zs) (walked g.faults v z zs) walked_is.joins single);
             fewer = ⊎_elim
-                (λ (l : length (walked g.faults v z zs) < length (z ∷ zs)). inl (omega arith))
-                (λ (e : walked g.faults v z zs ≡ z ∷ zs). inr (
-                  subst (IsPermutation xs) (sym e) q,
-                  λ u f. subst (λ y. IsSettledOn g.faults y (walked g.faults v z zs)) (sym f)
-                      (settled g few v known z zs good single s),
+                (λ (less : length (walked g.faults v z zs) < length (z ∷ zs)). inl (omega arith))
+                (λ (same : walked g.faults v z zs ≡ z ∷ zs). inr (
+                  subst (IsPermutation xs) (sym same) permuted_zs,
+                  λ u is_v. subst (λ y. IsSettledOn g.faults y (walked g.faults v z zs)) (sym is_v)
+                      (settled g few v known z zs good single sorted),
                 ))
-                w.fewer;
+                walked_is.fewer;
           }
 
 -- ---- steps that leave columns as they are
@@ -213,15 +228,18 @@ module _ (g : Graph) (few : process_count g ≤ 128) where
 not_walked : (k v : ℕ) (c : Column) (cs : List Column) → is_any_followed_from k v c cs ≡ false →
     walked k v c cs ≡ c ∷ cs
 -- by induction on the list
-not_walked k v c [] h = refl
-not_walked k v c (d ∷ ds) h = cond-false (is_followed k v c d) (walked k v (joined k v c d) ds) (c ∷ walked k v d ds)
-    (or_parts (is_followed k v c d) (is_any_followed_from k v d ds) h).0
-    ∙ ap (λ xs. c ∷ xs) (not_walked k v d ds (or_parts (is_followed k v c d) (is_any_followed_from k v d ds) h).1)
+not_walked k v c [] none_followed = refl
+not_walked k v c (d ∷ ds) none_followed =
+    cond-false (is_followed k v c d) (walked k v (joined k v c d) ds) (c ∷ walked k v d ds)
+    (or_parts (is_followed k v c d) (is_any_followed_from k v d ds) none_followed).0
+    ∙ ap (λ xs. c ∷ xs) (not_walked k v d ds
+    (or_parts (is_followed k v c d) (is_any_followed_from k v d ds) none_followed).1)
 
--- if no column follows the one before it, the walk over the columns, of which there may be none, leaves them as they are
+-- if no column follows the one before it, the walk over the columns, of which there may be none, leaves them as they
+-- are
 pub not_walked_over : (k v : ℕ) (cs : List Column) → is_any_followed k v cs ≡ false → walked_over k v cs ≡ cs
-not_walked_over k v [] h = refl
-not_walked_over k v (c ∷ cs) h = not_walked k v c cs h
+not_walked_over k v [] none_followed = refl
+not_walked_over k v (c ∷ cs) none_followed = not_walked k v c cs none_followed
 
 -- ---- steps one after another
 
@@ -230,33 +248,39 @@ module _ (g : Graph) where
   -- columns that are settled at v need no step there
   pub passed_settled : (v : ℕ) → (xs : List Column) → IsShorn g xs → IsSettledOn g.faults v xs →
       IsPassed g (λ u. u ≡ v) xs xs
-  passed_settled v xs h apart = record {
+  passed_settled v xs is_shorn apart = record {
     joins = joins_itself g xs;
-    good = h;
-    fewer = inr (IsPermutation-refl xs, λ u e. subst (λ y. IsSettledOn g.faults y xs) (sym e) apart);
+    good = is_shorn;
+    fewer = inr (IsPermutation-refl xs, λ u is_v. subst (λ y. IsSettledOn g.faults y xs) (sym is_v) apart);
   }
 
-  -- columns that are settled at v are so in another order
+  -- columns that are settled at v are settled at v in any other order
   settled_permuted : (v : ℕ) (xs ys : List Column) → IsPermutation xs ys → IsSettledOn g.faults v xs →
       IsSettledOn g.faults v ys
-  settled_permuted v xs ys p h = λ c d m n. h c d (Contains-permutation ys xs c (IsPermutation-sym xs ys p) m)
-      (Contains-permutation ys xs d (IsPermutation-sym xs ys p) n)
+  settled_permuted v xs ys permuted settled_xs =
+      λ c d c_in d_in. settled_xs c d (Contains-permutation ys xs c (IsPermutation-sym xs ys permuted) c_in)
+      (Contains-permutation ys xs d (IsPermutation-sym xs ys permuted) d_in)
 
   -- going over no variables leaves the columns as they are
   pub passed_none : (P : ℕ → Type 0) → ((v : ℕ) → P v → ⊥) → (xs : List Column) → IsShorn g xs → IsPassed g P xs xs
-  passed_none P none xs h =
-      record { joins = joins_itself g xs; good = h; fewer = inr (IsPermutation-refl xs, λ v o. absurd (none v o)) }
+  passed_none P none xs is_shorn =
+      record {
+        joins = joins_itself g xs;
+        good = is_shorn;
+        fewer = inr (IsPermutation-refl xs, λ v holds. absurd (none v holds));
+      }
 
-  -- what goes over some variables goes over fewer
+  -- a step over some variables is a step over fewer of them
   pub passed_wider : (P Q : ℕ → Type 0) → ((v : ℕ) → Q v → P v) → (xs ys : List Column) → IsPassed g P xs ys →
       IsPassed g Q xs ys
-  passed_wider P Q h xs ys k = record {
-    joins = k.joins;
-    good = k.good;
+  passed_wider P Q weaker xs ys passed = record {
+    joins = passed.joins;
+    good = passed.good;
     fewer = ⊎_elim
-        (λ (l : length ys < length xs). inl l)
-        (λ (l : IsPermutation xs ys × ((v : ℕ) → P v → IsSettledOn g.faults v ys)). inr (l.0, λ v o. l.1 v (h v o)))
-        k.fewer;
+        (λ (less : length ys < length xs). inl less)
+        (λ (same : IsPermutation xs ys × ((v : ℕ) → P v → IsSettledOn g.faults v ys)). inr
+        (same.0, λ v holds. same.1 v (weaker v holds)))
+        passed.fewer;
   }
 
   -- going over some variables and then over others is going over all of these; if no column was joined in either, the
@@ -266,54 +290,55 @@ module _ (g : Graph) where
       IsPassed g R xs zs
   -- columns that become fewer in either step are fewer in the end; if they don't in either, they are the same in some
   -- order
-  passed_through P Q R split xs ys zs h k = record {
-    joins = joins_through g xs ys zs h.joins k.joins;
-    good = k.good;
+  passed_through P Q R split xs ys zs first_passed then_passed = record {
+    joins = joins_through g xs ys zs first_passed.joins then_passed.joins;
+    good = then_passed.good;
     fewer = ⊎_elim
-        (λ (l : length ys < length xs). inl (⊎_elim
-        (λ (m : length zs < length ys). let r : length zs < length xs = omega arith in r)
-        (λ (m : IsPermutation ys zs × ((v : ℕ) → Q v → IsSettledOn g.faults v zs)).
-        let n = length_permutation ys zs m.0 in
-        let r : length zs < length xs = omega arith in
-        r)
-        k.fewer))
-        (λ (l : IsPermutation xs ys × ((v : ℕ) → P v → IsSettledOn g.faults v ys)).
-        let n = length_permutation xs ys l.0 in
+        (λ (less : length ys < length xs). inl (⊎_elim
+        (λ (less_again : length zs < length ys). let shorter : length zs < length xs = omega arith in shorter)
+        (λ (same_zs : IsPermutation ys zs × ((v : ℕ) → Q v → IsSettledOn g.faults v zs)).
+        let same_length = length_permutation ys zs same_zs.0 in
+        let shorter : length zs < length xs = omega arith in
+        shorter)
+        then_passed.fewer))
+        (λ (same_ys : IsPermutation xs ys × ((v : ℕ) → P v → IsSettledOn g.faults v ys)).
+        let same_length = length_permutation xs ys same_ys.0 in
         ⊎_elim
-        (λ (m : length zs < length ys). inl (let r : length zs < length xs = omega arith in r))
-        (λ (m : IsPermutation ys zs × ((v : ℕ) → Q v → IsSettledOn g.faults v zs)). inr (
-          IsPermutation-trans xs ys zs l.0 m.0,
-          λ v o. ⊎_elim (λ (a : P v). settled_permuted v ys zs m.0 (l.1 v a)) (λ (b : Q v). m.1 v b) (split v o),
+        (λ (less : length zs < length ys). inl (let shorter : length zs < length xs = omega arith in shorter))
+        (λ (same_zs : IsPermutation ys zs × ((v : ℕ) → Q v → IsSettledOn g.faults v zs)). inr (
+          IsPermutation-trans xs ys zs same_ys.0 same_zs.0,
+          λ v holds. ⊎_elim (λ (p_holds : P v). settled_permuted v ys zs same_zs.0 (same_ys.1 v p_holds))
+              (λ (q_holds : Q v). same_zs.1 v q_holds) (split v holds),
         ))
-        k.fewer)
-        h.fewer;
+        then_passed.fewer)
+        first_passed.fewer;
   }
 
   -- if as many columns are left as before, they are settled at the variables gone over
   pub settled_same : (P : ℕ → Type 0) (xs ys : List Column) → IsPassed g P xs ys → length ys ≡ length xs → (v : ℕ) →
       P v →
       IsSettledOn g.faults v ys
-  settled_same P xs ys k e = ⊎_elim
-      (λ (l : length ys < length xs). absurd (omega arith))
-      (λ (l : IsPermutation xs ys × ((v : ℕ) → P v → IsSettledOn g.faults v ys)). l.1)
-      k.fewer
+  settled_same P xs ys passed same_length = ⊎_elim
+      (λ (less : length ys < length xs). absurd (omega arith))
+      (λ (same : IsPermutation xs ys × ((v : ℕ) → P v → IsSettledOn g.faults v ys)). same.1)
+      passed.fewer
 
   -- if as many columns are left as before, they are the same in some order
   pub permuted_same : (P : ℕ → Type 0) (xs ys : List Column) → IsPassed g P xs ys → length ys ≡ length xs →
       IsPermutation xs ys
-  permuted_same P xs ys k e = ⊎_elim
-      (λ (l : length ys < length xs). absurd (omega arith))
-      (λ (l : IsPermutation xs ys × ((v : ℕ) → P v → IsSettledOn g.faults v ys)). l.0)
-      k.fewer
+  permuted_same P xs ys passed same_length = ⊎_elim
+      (λ (less : length ys < length xs). absurd (omega arith))
+      (λ (same : IsPermutation xs ys × ((v : ℕ) → P v → IsSettledOn g.faults v ys)). same.0)
+      passed.fewer
 
   -- if not as many columns are left as before, there are fewer
   pub fewer_else : (P : ℕ → Type 0) (xs ys : List Column) → IsPassed g P xs ys → length ys ≢ length xs →
       length ys < length xs
-  fewer_else P xs ys k n = ⊎_elim
-      (λ (l : length ys < length xs). l)
-      (λ (l : IsPermutation xs ys × ((v : ℕ) → P v → IsSettledOn g.faults v ys)).
-      absurd (n (length_permutation xs ys l.0)))
-      k.fewer
+  fewer_else P xs ys passed differ = ⊎_elim
+      (λ (less : length ys < length xs). less)
+      (λ (same : IsPermutation xs ys × ((v : ℕ) → P v → IsSettledOn g.faults v ys)).
+      absurd (differ (length_permutation xs ys same.0)))
+      passed.fewer
 
 -- ---- columns that are known to be sorted
 
@@ -321,9 +346,9 @@ module _ (g : Graph) where
 -- `before`, and both have the same columns.
 pub sorted_through : (before middle after : Listing) → IsSortedAs before middle → IsSortedAs middle after →
     IsSortedAs before after
-sorted_through before middle after h k t =
-    let later = k t in
-    let earlier = h later.0 in
+sorted_through before middle after to_middle to_after after_sorted =
+    let later = to_after after_sorted in
+    let earlier = to_middle later.0 in
     (earlier.0, later.1 ∙ earlier.1)
 
 -- If columns that are known to be sorted stand by their lows, so do those of a later listing that are known to be
@@ -332,5 +357,5 @@ pub sorted_still : (g : Graph) (order : List ℕ) (before after : Listing) →
     (before.is_sorted ≡ true → AreByLows (λ (c : Column). c.cube) g order before.columns.items) →
     IsSortedAs before after →
     after.is_sorted ≡ true → AreByLows (λ (c : Column). c.cube) g order after.columns.items
-sorted_still g order before after stood same t = let is = same t in
+sorted_still g order before after stood same after_sorted = let is = same after_sorted in
     subst (AreByLows (λ (c : Column). c.cube) g order) (sym is.1) (stood is.0)

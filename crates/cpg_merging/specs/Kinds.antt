@@ -23,8 +23,8 @@ kind_by time literals = record {
 abbrev pub kind_of : Column → ColumnKind
 kind_of c = kind_by c.time c.cube
 
--- `amounts` has an amount for each place, and `differing` says where columns of one place ask differently. If that isn't
--- noted at the place of this kind, the amount there is the one that the kind asks.
+-- `amounts` has an amount for each place, and `differing` says where columns of one place ask differently. If that
+-- isn't noted at the place of this kind, the amount there is the one that the kind asks.
 abbrev pub IsTold : List ℕ → List Bool → ColumnKind → Type 0
 IsTold amounts differing kind = ¬ IsMarked differing (place_in (length amounts) kind.number) →
     get_or amounts (place_in (length amounts) kind.number) 0 ≡ kind.asked

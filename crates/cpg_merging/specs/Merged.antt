@@ -18,7 +18,7 @@ IsLeastMatch g order c s = IsLeast g order (λ t. IsTrue (matches c.cube t)) s
 abbrev pub IsColumn : List Column → ℕ → Column → Type 0
 IsColumn columns i c = slice_get columns i ≡ Some c
 
--- each column matches some scenario, so there is a least one
+-- each column has a least scenario that it matches
 abbrev pub AreMet : Graph → List ℕ → List Column → Type 0
 AreMet g order columns = All (λ c. (s : Scenario) × IsLeastMatch g order c s) columns
 
@@ -28,11 +28,11 @@ AreOrdered g order columns =
     (i j : ℕ) (c d : Column) (s t : Scenario) → i < j → IsColumn columns i c → IsColumn columns j d →
     IsLeastMatch g order c s → IsLeastMatch g order d t → IsTrue (is_before g order s t)
 
--- no literal has the whole range of its variable, which would say nothing
+-- no literal of a column has the whole range of its variable, which would say nothing
 abbrev pub HaveNoWhole : ℕ → List Column → Type 0
 HaveNoWhole k columns = All (λ c. All (λ l. is_whole k l ≡ false) c.cube) columns
 
--- no literal goes past the greatest number of its variable
+-- no literal of a column goes past the greatest number of its variable
 abbrev pub AreWithin : ℕ → List Column → Type 0
 AreWithin k columns = All (λ c. All (λ l. l.high ≤ top k l.variable) c.cube) columns
 
@@ -47,33 +47,33 @@ IsWider k a b = (v : ℕ) → (low_in a v ≤ low_in b v) × (high_in k b v ≤ 
 
 -- columns that may be merged
 pub record AreMergeable (g : Graph) (columns : List Column) : Type 0 where
-  -- their literals are on variables of the graph, in rising order
+  -- the literals of each column are on variables of the graph, in rising order
   pub cubes : All (λ c. IsCube g c.cube) columns
-  -- no literal goes past the greatest number of its variable
+  -- no literal of a column goes past the greatest number of its variable
   pub within : AreWithin g.faults columns
-  -- each matches some scenario of the graph
+  -- each column matches some scenario of the graph
   pub met : All (λ c. (s : Scenario) × IsScenario g s × IsTrue (matches c.cube s)) columns
-  -- no scenario matches two of them
+  -- no scenario is matched by two of them
   pub apart : (s : Scenario) → IsScenario g s → length (times_in columns s) ≤ 1
 
--- `columns` are the entries, merged: in every scenario they have the same times, and they are as few as can be
+-- `columns` are the entries, merged: in every scenario they have the same times, and no two of them can be made one
 pub record IsMergeOf (g : Graph) (order : List ℕ) (entries columns : List Column) : Type 0 where
-  -- the time of the column that a scenario matches is that of its entry
+  -- in each scenario the columns have the same times as the entries
   pub times : (s : Scenario) → IsScenario g s → times_in columns s ≡ times_in entries s
-  -- a column allows all that an entry allows which matches together with it
+  -- a column allows all that an entry allows if some scenario matches both
   pub wider : (s : Scenario) (e c : Column) → IsScenario g s → Contains entries e → Contains columns c →
       IsTrue (matches e.cube s) → IsTrue (matches c.cube s) → IsWider g.faults c.cube e.cube
-  -- their literals are on variables of the graph, in rising order
+  -- the literals of each column are on variables of the graph, in rising order
   pub cubes : All (λ c. IsCube g c.cube) columns
-  -- no literal goes past the greatest number of its variable
+  -- no literal of a column goes past the greatest number of its variable
   pub within : AreWithin g.faults columns
-  -- no literal has the whole range of its variable
+  -- no literal of a column has the whole range of its variable
   pub not_whole : HaveNoWhole g.faults columns
-  -- each matches some scenario of the graph
+  -- each column matches some scenario of the graph
   pub met : AreMet g order columns
-  -- they stand by the least scenario that each matches
+  -- the columns stand by the least scenario that each matches
   pub ordered : AreOrdered g order columns
-  -- no two of them can be made one
+  -- no two columns can be made one
   pub merged : IsMerged g columns
   -- a literal of a column is on a variable of which some entry that matches together with it has a literal
   pub spoken : (c : Column) (l : Literal) → Contains columns c → Contains c.cube l →

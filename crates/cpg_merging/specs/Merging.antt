@@ -47,8 +47,8 @@ abbrev pub is_followed : ℕ → ℕ → Column → Column → Bool
 -- `k` is the number of faults, which is the greatest count: a column without a literal on v has its whole range
 is_followed k v c d = is_eq (beside_cmp v c d) && (high_in k c.cube v + 1 == low_in d.cube v)
 
--- c with d, which follows it at v: c's range of v goes on to the end of d's, and is dropped if it is then the whole
--- one
+-- c with d, which follows it at v: c's range of v goes on to the end of d's, and literals that have the whole range of
+-- their variable are dropped
 abbrev pub joined : ℕ → ℕ → Column → Column → Column
 joined k v c d = record { time = c.time; cube = shorn k (raised v (high_in k d.cube v) c.cube) }
 
@@ -62,7 +62,7 @@ abbrev pub walked_over : ℕ → ℕ → List Column → List Column
 walked_over k v [] = []
 walked_over k v (c ∷ cs) = walked k v c cs
 
--- whether some of these columns follows the one before it, the first of them c
+-- whether some column of the list follows the one before it; c is the one before the first
 abbrev pub is_any_followed_from : ℕ → ℕ → Column → List Column → Bool
 is_any_followed_from k v c [] = false
 is_any_followed_from k v c (d ∷ ds) = is_followed k v c d || is_any_followed_from k v d ds
@@ -78,12 +78,14 @@ all_shorn k columns = map (λ c. record { time = c.time; cube = shorn k c.cube }
 
 -- columns that may be merged, and of which no literal has the whole range of its variable
 pub record IsShorn (g : Graph) (columns : List Column) : Type 0 where
-  -- each matches some scenario, and no scenario matches two
+  -- the columns may be merged: each matches some scenario, no scenario is matched by two, and all literals are the
+  -- graph's
   pub good : AreMergeable g columns
-  -- no literal has the whole range of its variable
+  -- no literal of a column has the whole range of its variable
   pub not_whole : HaveNoWhole g.faults columns
 
--- `joins` is `columns` with some of them made one
+-- `joins` gives each scenario the times that `columns` does, and each of `columns` lies within one of `joins`, as when
+-- some of them are made one
 pub record IsJoinOf (g : Graph) (columns joins : List Column) : Type 0 where
   -- the scenarios have the same times in both
   pub times : (s : Scenario) → IsScenario g s → times_in joins s ≡ times_in columns s
@@ -98,13 +100,13 @@ pub record TouchAt (k : ℕ) (v : ℕ) (a b : List Literal) : Type 0 where
   -- b's range of v begins right behind the end of a's
   pub next : high_in k a v + 1 ≡ low_in b v
 
--- no column of one time follows another at variable v
+-- no two columns of one time touch at variable v
 abbrev pub IsSettledOn : ℕ → ℕ → List Column → Type 0
 IsSettledOn k v columns =
     (c d : Column) → Contains columns c → Contains columns d → c.time ≡ d.time → TouchAt k v c.cube d.cube → ⊥
 
--- What going over the variables of which `over` holds makes of `columns`: fewer columns (`passed`), or the same ones, of which
--- none touch at any of these variables.
+-- `passed` is what going over the variables of which `over` holds makes of `columns`: fewer columns, or the same ones
+-- in some order, of which none touch at any of these variables
 pub record IsPassed (g : Graph) (over : ℕ → Type 0) (columns passed : List Column) : Type 0 where
   -- `passed` is a join of the columns
   pub joins : IsJoinOf g columns passed
@@ -118,16 +120,17 @@ pub record IsPassed (g : Graph) (over : ℕ → Type 0) (columns passed : List C
 abbrev pub IsBetween : ℕ → ℕ → ℕ → Type 0
 IsBetween first end v = (first ≤ v) × (v < end)
 
--- `made_one` is `columns`, joined until no column of one time follows another at any variable of the graph
+-- `made_one` is `columns`, joined until no two columns of one time touch at any variable of the graph
 pub record AreSettled (g : Graph) (columns made_one : List Column) : Type 0 where
   -- `made_one` is a join of the columns
   pub joins : IsJoinOf g columns made_one
   -- the columns of `made_one` may be merged too, and no literal has a whole range
   pub good : IsShorn g made_one
-  -- no column of one time follows another at any variable
+  -- no two columns of one time touch at any variable of the graph
   pub settled : (v : ℕ) → IsVariable g v → IsSettledOn g.faults v made_one
 
--- if the listing `made` is known to be sorted, the listing that it is made of was, and has the same columns in the same order
+-- if the listing `made` is known to be sorted, the listing that it is made of was, and has the same columns in the same
+-- order
 abbrev pub IsSortedAs : Listing → Listing → Type 0
 IsSortedAs listing made =
     made.is_sorted ≡ true → (listing.is_sorted ≡ true) × (made.columns.items ≡ listing.columns.items)

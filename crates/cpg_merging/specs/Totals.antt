@@ -1,4 +1,4 @@
--- Totals of columns: each is a sum over a column's time and literals. They show whether any two columns touch: if d
+-- Totals of columns: each is a sum over a column's time and literals. They show where no two columns touch: if d
 -- follows c at a literal of d, then d's total with another number for this literal is the total of c.
 use Rattle.std.specs.Prelude.{ℕ, ◌+◌, ◌-◌, ◌*◌, ◌/◌, ◌^◌, ◌%◌, ◌<◌, ◌≤◌, ◌≡◌, Bool, true, false, List, length, get_or}
 use Rattle.std.specs.Prelude.{sum_by, Contains}
@@ -46,13 +46,13 @@ HasNoPartner totals total l = (low rest : ℕ) → low < l.low → (rest + hash_
 abbrev pub IsMarked : List Bool → ℕ → Type 0
 IsMarked marks v = get_or marks v false ≡ true
 
--- at each literal whose variable isn't marked, no column with one of these totals is followed by any of the columns
+-- at a literal whose variable isn't marked, none of the columns follows a column with one of these totals
 abbrev pub AreMarkedBy : List ℕ → List Bool → List Column → Type 0
 AreMarkedBy totals marks columns =
     (d : Column) (l : Literal) → Contains columns d → Contains d.cube l → ¬ IsMarked marks l.variable →
     HasNoPartner totals (total_of d) l
 
--- no column of one time follows another at a variable of the graph that isn't marked
+-- no two columns of one time touch at a variable of the graph that isn't marked
 abbrev pub AreMarked : Graph → List Bool → List Column → Type 0
 AreMarked g marks columns = (v : ℕ) → IsVariable g v → ¬ IsMarked marks v → IsSettledOn g.faults v columns
 

@@ -9,7 +9,7 @@ use cpg_base::OutOfMemory;
 use cpg_cube::{Column, Literal};
 use std::alloc::Global;
 
-/// How many amounts a byte may say. A demand is its time, times this, plus the amount.
+/// How many amounts a byte can say. A demand is the time, times this, plus the amount.
 const AMOUNTS: u64 = 256;
 
 /// Returns how much these literals ask: the sum of their lows, as a byte.

@@ -133,8 +133,9 @@ fn raised_cube(alloc: Global, variable: u8, high: u8, cube: &Cube) -> Result<Cub
     Ok(raised)
 }
 
-/// Returns `a` with its range of the variable extended to the end of `b`'s; a literal that then has the whole range is
-/// dropped. If `b` follows `a`, this is the two made one. `b`'s other literals and its time aren't looked at.
+/// Returns `a` with its range of the variable extended to the end of `b`'s, and without literals that have the whole
+/// range of their variable. If `b` follows `a`, this is the two made one. `b`'s other literals and its time aren't
+/// looked at.
 fn join(
     alloc: Global,
     faults: u8,

@@ -1,4 +1,4 @@
-//! Merging: rows get as few columns as can be, by joining those that differ in one variable alone.
+//! Merging: rows get fewer columns, by joining those that differ in one variable alone.
 #![tactic(auto)]
 
 mod demands;

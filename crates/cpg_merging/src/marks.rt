@@ -1,5 +1,5 @@
-//! Marks of the variables at which two columns of a row may touch. A mark may be wrong; no mark says that no two touch
-//! there.
+//! Marks of the variables at which two columns of a row may touch. A mark may be wrong, but at a variable without one
+//! no two columns touch.
 ghost use Rattle.std.specs.Prelude.{ℕ, ◌≡◌, Contains, IfOk, map};
 ghost use Rattle.cpg_cube.specs.declared.literal.Literal.{Literal};
 ghost use Rattle.cpg_merging.specs.Totals.{AreMarked, AreMarkedBy, AreSums, HasNoPartner, IsMarked, total_of};

@@ -156,8 +156,8 @@ pub fn merged(
 }
 
 /// Returns what `merged` returns, for columns of which no literal has the whole range of its variable. They aren't
-/// sorted if they are known to stand by the least scenario that each matches and none is joined. The one error is
-/// `OutOfMemory`.
+/// sorted again if they are known to stand by the least scenario that each matches and none is joined. The one error
+/// is `OutOfMemory`.
 pub fn merged_tidy(
     alloc: Global,
     problem: &Problem,

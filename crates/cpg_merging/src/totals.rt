@@ -1,4 +1,4 @@
-//! Totals of columns: sums over their literals that show whether any two columns touch.
+//! Totals of columns: sums over their literals that show where no two columns touch.
 ghost use Rattle.std.specs.Prelude.{◌≡◌, ◌+◌, ◌%◌, ◌^◌, ◌<◌, Contains, IfOk, length, map};
 ghost use Rattle.std.specs.Bool.{OnFalse};
 ghost use Rattle.cpg_merging.specs.Totals.{AreSums, HasNoPartner, IsSieve, hash_of, mixed, number_of, place_in, total_by, total_of};

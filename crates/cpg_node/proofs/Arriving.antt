@@ -13,15 +13,15 @@ use Rattle.cpg_node.specs.State.{arrives}
 -- an item of which some row has a column has a row; by induction: the columns of an item are those of its first row
 has_row : (rows : List Row) (x i : ℕ) → i < length (columns_in rows x) →
     list_any (λ (row : Row). row.item == x) rows ≡ true
-has_row [] x i l = absurd (omega (arith, l))
+has_row [] x i inside = absurd (omega (arith, inside))
 has_row (row ∷ rows) x i l = go (row.item == x) (has_row rows x i) l
   where
     -- by whether the first row is of item x
     go : (b : Bool) → (i < length (columns_in rows x) → list_any (λ (row : Row). row.item == x) rows ≡ true) →
         i < length (cond b row.columns (columns_in rows x)) →
         (b || list_any (λ (row : Row). row.item == x) rows) ≡ true
-    go true later l = refl
-    go false later l = later l
+    go true later inside = refl
+    go false later inside = later inside
 
 -- given: a node's table, a time, and a frame f
 module _ (table : OwnTable) (arrival : ℕ) (f : Frame) where
@@ -30,13 +30,13 @@ module _ (table : OwnTable) (arrival : ℕ) (f : Frame) where
   pub arrives_at : (c : Column) → slice_get (columns_in table.hears f.item) f.column ≡ Some c →
       (c.time == arrival) ≡ arrives table arrival f
   arrives_at c is =
-      let l : f.column < length (columns_in table.hears f.item) =
+      let inside : f.column < length (columns_in table.hears f.item) =
       slice_get_within (columns_in table.hears f.item) f.column c is in
       sym (ap (λ b. b && nat_lt f.column (length (columns_in table.hears f.item))
       && ((get_or (columns_in table.hears f.item) f.column no_column).time == arrival))
-      (has_row table.hears f.item f.column l)
+      (has_row table.hears f.item f.column inside)
       ∙ ap (λ b. b && ((get_or (columns_in table.hears f.item) f.column no_column).time == arrival))
-      (lt-ltb f.column (length (columns_in table.hears f.item)) l)
+      (lt-ltb f.column (length (columns_in table.hears f.item)) inside)
       ∙ ap (λ (d : Column). d.time == arrival)
       (get_or_from_slice_get (columns_in table.hears f.item) f.column c no_column is))
 

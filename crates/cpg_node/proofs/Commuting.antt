@@ -45,32 +45,32 @@ next_same d f = next_reported f d.table d.heard d.running d.last
 -- next instant changes
 pub may_then : (d : Dispatcher) (f : Ended) (time : ℕ) (e : Ended) → f.process ≢ e.process → MayFinish d time e →
     MayFinish (finished d f) time e
-may_then d f time e ne m = record {
-  run = m.run;
-  runs = other_running f e.process ne d.table.own d.running ∙ m.runs;
-  unreported = m.unreported;
-  few = m.few;
-  plain = m.plain;
-  started = m.started;
-  in_time = m.in_time;
-  later = m.later;
-  before = subst (λ o. IfSome o (λ n. time ≤ n)) (sym (next_same d f)) m.before;
+may_then d f time e ne may_finish = record {
+  run = may_finish.run;
+  runs = other_running f e.process ne d.table.own d.running ∙ may_finish.runs;
+  unreported = may_finish.unreported;
+  few = may_finish.few;
+  plain = may_finish.plain;
+  started = may_finish.started;
+  in_time = may_finish.in_time;
+  later = may_finish.later;
+  before = subst (λ o. IfSome o (λ n. time ≤ n)) (sym (next_same d f)) may_finish.before;
 }
 
 -- an execution that may be reported after the report of another process may be reported before it, for the same reason
 pub may_before : (d : Dispatcher) (f : Ended) (time : ℕ) (e : Ended) → f.process ≢ e.process →
     MayFinish (finished d f) time e →
     MayFinish d time e
-may_before d f time e ne m = record {
-  run = m.run;
-  runs = sym (other_running f e.process ne d.table.own d.running) ∙ m.runs;
-  unreported = m.unreported;
-  few = m.few;
-  plain = m.plain;
-  started = m.started;
-  in_time = m.in_time;
-  later = m.later;
-  before = subst (λ o. IfSome o (λ n. time ≤ n)) (next_same d f) m.before;
+may_before d f time e ne may_finish = record {
+  run = may_finish.run;
+  runs = sym (other_running f e.process ne d.table.own d.running) ∙ may_finish.runs;
+  unreported = may_finish.unreported;
+  few = may_finish.few;
+  plain = may_finish.plain;
+  started = may_finish.started;
+  in_time = may_finish.in_time;
+  later = may_finish.later;
+  before = subst (λ o. IfSome o (λ n. time ≤ n)) (next_same d f) may_finish.before;
 }
 
 -- ---- two reports leave the same in either order
@@ -107,20 +107,20 @@ reported_run : (f : Ended) (os : List Own) (runs : List (Option Running)) →
 reported_run f [] runs = refl
 reported_run f (o ∷ os) [] = refl
 reported_run f (o ∷ os) (run ∷ runs) = elim (cases_eq o.process f.process) [
-  | inl e ↦ let b = eq-eqb o.process f.process e in
-      cond-true (o.process == f.process) _ _ b ∙ own run b ∙ sym (ap (option_map (λ (run : Running).
-      record { start = run.start; report = Some f })) (cond-true (o.process == f.process) _ _ b))
-  | inr far ↦ let b = ne_eqb o.process f.process far in
-      cond-false (o.process == f.process) _ _ b ∙ reported_run f os runs
+  | inl here ↦ let test = eq-eqb o.process f.process here in
+      cond-true (o.process == f.process) _ _ test ∙ own run test ∙ sym (ap (option_map (λ (run : Running).
+      record { start = run.start; report = Some f })) (cond-true (o.process == f.process) _ _ test))
+  | inr far ↦ let test = ne_eqb o.process f.process far in
+      cond-false (o.process == f.process) _ _ test ∙ reported_run f os runs
       ∙ sym (ap (option_map (λ (run : Running). record { start = run.start; report = Some f }))
-      (cond-false (o.process == f.process) _ _ b))
+      (cond-false (o.process == f.process) _ _ test))
 ]
   where
     own : (run : Option Running) → o.process == f.process ≡ true →
         with_report f o run ≡ option_map (λ (run : Running). record { start = run.start; report = Some f }) run
-    own None b = refl
-    own (Some run) b =
-        cond-true (o.process == f.process) (Some (record { start = run.start; report = Some f })) (Some run) b
+    own None test = refl
+    own (Some run) test =
+        cond-true (o.process == f.process) (Some (record { start = run.start; report = Some f })) (Some run) test
 
 -- an execution whose report was noted isn't one without a report
 pub reported_once : (d : Dispatcher) (f : Ended) (run : Running) → running_of (finished d f) f.process ≡ Some run →
@@ -130,8 +130,8 @@ reported_once d f run e none = go (running_of d f.process) (sym (reported_run f 
     -- by whether the process had an execution
     go : (o : Option Running) →
         option_map (λ (run : Running). record { start = run.start; report = Some f }) o ≡ Some run → ⊥
-    go None e = none-some run e
-    go (Some before) e = none-some f (sym none ∙ ap (λ (r : Running). r.report) (sym (same_Some _ _ e)))
+    go None found = none-some run found
+    go (Some before) found = none-some f (sym none ∙ ap (λ (r : Running). r.report) (sym (same_Some _ _ found)))
 
 -- ---- frames of one time may be heard in either order
 
@@ -199,19 +199,20 @@ hear_either d x y = ap (λ h. record { table = d.table; heard = h; running = d.r
 uncut : (h : List Range) (v : ℕ) (l : Literal) →
     list_any is_contradicted (set h v (cut_range (range_of h v) l)) ≡ false →
     list_any is_contradicted h ≡ false
-uncut [] v l e = e
-uncut (r ∷ h) zero l e = let p = or_parts (is_contradicted (cut_range r l)) (list_any is_contradicted h) e in
+uncut [] v l fine = fine
+uncut (r ∷ h) zero l fine = let parts = or_parts (is_contradicted (cut_range r l)) (list_any is_contradicted h) fine in
     or_from (is_contradicted r) (list_any is_contradicted h)
-    (le-ltb r.high r.low (let b = ltb-false (min r.high l.high) (max r.low l.low) p.0 in omega (arith, b))) p.1
-uncut (r ∷ h) (suc v) l e =
-    let p = or_parts (is_contradicted r) (list_any is_contradicted (set h v (cut_range (range_of h v) l))) e in
-    or_from (is_contradicted r) (list_any is_contradicted h) p.0 (uncut h v l p.1)
+    (le-ltb r.high r.low (let not_below = ltb-false (min r.high l.high) (max r.low l.low) parts.0 in
+    omega (arith, not_below))) parts.1
+uncut (r ∷ h) (suc v) l fine =
+    let parts = or_parts (is_contradicted r) (list_any is_contradicted (set h v (cut_range (range_of h v) l))) fine in
+    or_from (is_contradicted r) (list_any is_contradicted h) parts.0 (uncut h v l parts.1)
 
 -- if no range is contradicted after several literals, none was before them
 uncut_all : (ls : List Literal) (h : List Range) → list_any is_contradicted (cut_all h ls) ≡ false →
     list_any is_contradicted h ≡ false
-uncut_all [] h e = e
-uncut_all (l ∷ ls) h e = uncut h l.variable l (uncut_all ls (cut h l) e)
+uncut_all [] h fine = fine
+uncut_all (l ∷ ls) h fine = uncut h l.variable l (uncut_all ls (cut h l) fine)
 
 -- If x isn't strange, and y isn't after x was heard, then y isn't strange, and x isn't after y was heard. Whether a
 -- frame is unknown (has no row or no column of the time) doesn't hang on what was heard; both orders leave the same
@@ -219,19 +220,21 @@ uncut_all (l ∷ ls) h e = uncut h l.variable l (uncut_all ls (cut h l) e)
 pub fine_either : (d : Dispatcher) (time : ℕ) (x y : Frame) → is_strange d time x ≡ false →
     is_strange (hear d x) time y ≡ false →
     (is_strange d time y ≡ false) × (is_strange (hear d y) time x ≡ false)
-fine_either d time x y e f =
-    let p = or_parts (unknown x) (list_any is_contradicted (hear_frame d.table d.heard x)) e in
-    let q = or_parts (unknown y) (list_any is_contradicted (hear_frame d.table (hear_frame d.table d.heard x) y)) f in
+fine_either d time x y x_fine y_fine =
+    let x_parts = or_parts (unknown x) (list_any is_contradicted (hear_frame d.table d.heard x)) x_fine in
+    let y_parts =
+    or_parts (unknown y) (list_any is_contradicted (hear_frame d.table (hear_frame d.table d.heard x) y)) y_fine in
     let both : list_any is_contradicted (hear_frame d.table (hear_frame d.table d.heard y) x) ≡ false =
     sym (ap (list_any is_contradicted) (cuts_either (frame_literals d.table x) (frame_literals d.table y) d.heard))
-    ∙ q.1 in (
-      or_from (unknown y) (list_any is_contradicted (hear_frame d.table d.heard y)) q.0
+    ∙ y_parts.1 in (
+      or_from (unknown y) (list_any is_contradicted (hear_frame d.table d.heard y)) y_parts.0
           (uncut_all (frame_literals d.table x) (hear_frame d.table d.heard y) both),
-      or_from (unknown x) (list_any is_contradicted (hear_frame d.table (hear_frame d.table d.heard y) x)) p.0 both,
+      or_from (unknown x) (list_any is_contradicted (hear_frame d.table (hear_frame d.table d.heard y) x))
+          x_parts.0 both,
     )
   where
     -- a frame is unknown if its item has no row, or the row no such column, or the column another time
     unknown : Frame → Bool
-    unknown f = not (list_any (λ (row : Row). row.item == f.item) d.table.hears)
-        || not (nat_lt f.column (length (columns_in d.table.hears f.item)))
-        || not ((get_or (columns_in d.table.hears f.item) f.column no_column).time == time)
+    unknown frame = not (list_any (λ (row : Row). row.item == frame.item) d.table.hears)
+        || not (nat_lt frame.column (length (columns_in d.table.hears frame.item)))
+        || not ((get_or (columns_in d.table.hears frame.item) frame.column no_column).time == time)

@@ -29,43 +29,43 @@ use Rattle.cpg_node.specs.Instants.{left_of, planned_times, end_times, entries_l
 -- what is after a turn (`time`) is after the turn before it (`last`)
 after_both : (last : Option ℕ) (time x : ℕ) → is_after last time ≡ true → is_after (Some time) x ≡ true →
     is_after last x ≡ true
-after_both None time x a b = refl
-after_both (Some t) time x a b = lt-ltb t x (omega (arith, ltb-true t time a, ltb-true time x b))
+after_both None time x after b = refl
+after_both (Some t) time x after b = lt-ltb t x (omega (arith, ltb-true t time after, ltb-true time x b))
 
 -- after a later turn no more of the times are left
 pub fewer_left : (last : Option ℕ) (time : ℕ) (xs : List ℕ) → is_after last time ≡ true →
     left_of (Some time) xs ≤ left_of last xs
-fewer_left last time xs a =
-    length-filter-le (is_after (Some time)) (is_after last) xs (λ x b. after_both last time x a b)
+fewer_left last time xs after =
+    length-filter-le (is_after (Some time)) (is_after last) xs (λ x b. after_both last time x after b)
 
 -- if x passes the first test only if it passes the second, the list that the first test keeps stays the shorter one
 -- with x in front
 one_kept : (b c : Bool) (x : ℕ) (xs ys : List ℕ) → (b ≡ true → c ≡ true) → length xs < length ys →
     length (cond b (x ∷ xs) xs) < length (cond c (x ∷ ys) ys)
-one_kept true true x xs ys h l = omega arith
-one_kept true false x xs ys h l = absurd (true≢false (sym (h refl)))
-one_kept false true x xs ys h l = omega arith
-one_kept false false x xs ys h l = l
+one_kept true true x xs ys kept inside = omega arith
+one_kept true false x xs ys kept inside = absurd (true≢false (sym (kept refl)))
+one_kept false true x xs ys kept inside = omega arith
+one_kept false false x xs ys kept inside = inside
 
 -- after a later turn fewer of the times are left, if it is at one of them; by induction: if that is the first one, it
 -- is left no longer, and if it is a later one, fewer of the rest are left
 pub one_less : (last : Option ℕ) (time : ℕ) (xs : List ℕ) → is_after last time ≡ true → Contains xs time →
     left_of (Some time) xs < left_of last xs
-one_less last time [] a c = absurd (Contains-nil time c)
-one_less last time (x ∷ xs) a c = elim (Contains-cases x xs time c) [
+one_less last time [] after among = absurd (Contains-nil time among)
+one_less last time (x ∷ xs) after c = elim (Contains-cases x xs time c) [
   | inl e ↦ first (ltb time x) (is_after last x) (le-ltb time x (omega (arith, e)))
-      (subst (λ x. is_after last x ≡ true) (sym e) a) (fewer_left last time xs a)
+      (subst (λ x. is_after last x ≡ true) (sym e) after) (fewer_left last time xs after)
   | inr m ↦ one_kept (ltb time x) (is_after last x) x (filter (is_after (Some time)) xs) (filter (is_after last) xs)
-      (after_both last time x a) (one_less last time xs a m)
+      (after_both last time x after) (one_less last time xs after m)
 ]
   where
     -- the first time is that of the turn, so it counts before the turn alone
     first : (b c : Bool) → b ≡ false → c ≡ true → left_of (Some time) xs ≤ left_of last xs →
         length (cond b (x ∷ filter (is_after (Some time)) xs) (filter (is_after (Some time)) xs))
         < length (cond c (x ∷ filter (is_after last) xs) (filter (is_after last) xs))
-    first true c e f l = absurd (true≢false e)
-    first false true e f l = omega arith
-    first false false e f l = absurd (true≢false (sym f))
+    first true c fails holds l = absurd (true≢false fails)
+    first false true fails holds l = omega arith
+    first false false fails holds l = absurd (true≢false (sym holds))
 
 -- of a list with one more element in front, no fewer pass
 front_left : (p : ℕ → Bool) (x : ℕ) (xs : List ℕ) → length (filter p xs) ≤ length (filter p (x ∷ xs))
@@ -86,12 +86,12 @@ few_each o (Some run) l = omega (arith, l, length-map o.times (λ d. run.start +
 -- if each process has at most 9 possible ends, all processes together have at most 9 for each
 pub few_ends : (os : List Own) (runs : List (Option Running)) → HaveFewEnds os →
     length (flat_map (λ ends. ends) (zip_with possible_ends os runs)) ≤ length os * 9
-few_ends [] runs h = omega arith
-few_ends (o ∷ os) [] h = omega arith
-few_ends (o ∷ os) (run ∷ runs) h = omega (
+few_ends [] runs have_few_ends = omega arith
+few_ends (o ∷ os) [] have_few_ends = omega arith
+few_ends (o ∷ os) (run ∷ runs) have_few_ends = omega (
   arith,
-  few_each o run (All-head (λ (o : Own). length o.times ≤ 9) o os h),
-  few_ends os runs (All-tail (λ (o : Own). length o.times ≤ 9) o os h),
+  few_each o run (All-head (λ (o : Own). length o.times ≤ 9) o os have_few_ends),
+  few_ends os runs (All-tail (λ (o : Own). length o.times ≤ 9) o os have_few_ends),
   length-append (possible_ends o run) (flat_map (λ ends. ends) (zip_with possible_ends os runs)),
 )
 
@@ -114,20 +114,20 @@ either_few p q (o ∷ os) = go (p o) (q o) (filter (λ o. p o || q o) os) (filte
 
 -- at most one own process has a number, since their numbers rise
 once : (x : ℕ) (os : List Own) → DoRise os → length (filter (λ (o : Own). x == o.process) os) ≤ 1
-once x [] h = omega arith
-once x (o ∷ os) h = elim (cases_eq x o.process) [
+once x [] do_rise = omega arith
+once x (o ∷ os) do_rise = elim (cases_eq x o.process) [
   | inl e ↦ omega (
     arith,
     ap (λ (l : List Own). length l) (cond-true (x == o.process) (o ∷ filter (λ (o : Own). x == o.process) os)
         (filter (λ (o : Own). x == o.process) os) (eq-eqb x o.process e)),
     ap (λ (l : List Own). length l) (filter_none (λ (o : Own). x == o.process) os
-        (λ y m. ne_eqb x y.process (λ s. absurd (omega (arith, h.0 y m, e, s))))),
+        (λ y m. ne_eqb x y.process (λ s. absurd (omega (arith, do_rise.0 y m, e, s))))),
   )
   | inr ne ↦ omega (
     arith,
     ap (λ (l : List Own). length l) (cond-false (x == o.process) (o ∷ filter (λ (o : Own). x == o.process) os)
         (filter (λ (o : Own). x == o.process) os) (ne_eqb x o.process ne)),
-    once x os h.1,
+    once x os do_rise.1,
   )
 ]
 
@@ -137,16 +137,16 @@ started acts os = filter (λ (o : Own). list_any (λ (a : Act). a.item == o.proc
 
 -- no more processes are started than there are acts; by induction on the acts, each of which starts one at most
 started_few : (acts : List Act) (os : List Own) → DoRise os → length (started acts os) ≤ length acts
-started_few [] os h = omega (
+started_few [] os do_rise = omega (
   arith,
   ap (λ (l : List Own). length l)
       (filter_none (λ (o : Own). list_any (λ (a : Act). a.item == o.process) []) os (λ o m. refl)),
 )
-started_few (a ∷ acts) os h = omega (
+started_few (a ∷ acts) os do_rise = omega (
   arith,
   either_few (λ (o : Own). a.item == o.process) (λ (o : Own). list_any (λ (a : Act). a.item == o.process) acts) os,
-  once a.item os h,
-  started_few acts os h,
+  once a.item os do_rise,
+  started_few acts os do_rise,
 )
 
 -- as many pass of two lists in a row as pass of the one and of the other
@@ -162,13 +162,13 @@ grown_ends : (p : ℕ → Bool) (ended : List Ended) (acts : List Act) (time : �
     length (filter p
     (flat_map (λ ends. ends) (zip_with possible_ends os (zip_with (running_after ended acts time) os runs))))
     ≤ length (filter p (flat_map (λ ends. ends) (zip_with possible_ends os runs))) + length (started acts os) * 9
-grown_ends p ended acts time [] runs h = omega arith
-grown_ends p ended acts time (o ∷ os) [] h = omega arith
-grown_ends p ended acts time (o ∷ os) (run ∷ runs) h =
+grown_ends p ended acts time [] runs have_few_ends = omega arith
+grown_ends p ended acts time (o ∷ os) [] have_few_ends = omega arith
+grown_ends p ended acts time (o ∷ os) (run ∷ runs) have_few_ends =
     go (list_any (λ (a : Act). a.item == o.process) acts) (list_any (λ (e : Ended). e.process == o.process) ended)
     (flat_map (λ ends. ends) (zip_with possible_ends os (zip_with (running_after ended acts time) os runs)))
     (flat_map (λ ends. ends) (zip_with possible_ends os runs)) (started acts os)
-    (grown_ends p ended acts time os runs (All-tail (λ (o : Own). length o.times ≤ 9) o os h))
+    (grown_ends p ended acts time os runs (All-tail (λ (o : Own). length o.times ≤ 9) o os have_few_ends))
   where
     -- by whether the first process starts in the turn, and whether it ends in it
     go : (starts ends : Bool) (new old : List ℕ) (more : List Own) →
@@ -184,7 +184,7 @@ grown_ends p ended acts time (o ∷ os) (run ∷ runs) h =
           kept_parts p (possible_ends o begun) new,
           kept_parts p (possible_ends o run) old,
           all_left p (possible_ends o begun),
-          few_each o begun (All-head (λ (o : Own). length o.times ≤ 9) o os h),
+          few_each o begun (All-head (λ (o : Own). length o.times ≤ 9) o os have_few_ends),
         )
     go false true new old more l = omega (arith, l, kept_parts p (possible_ends o run) old)
     go false false new old more l =
@@ -195,15 +195,16 @@ grown_ends p ended acts time (o ∷ os) (run ∷ runs) h =
 -- the next instant is a planned time or a possible end, as it is one of the candidates, or 0 before the first turn
 instant_is : (d : Dispatcher) (time : ℕ) → next d ≡ Some time →
     Contains (planned_times d) time ⊎ Contains (end_times d) time
-instant_is d time e = go (is_some d.last)
+instant_is d time comes = go (is_some d.last)
     (Contains-filter_parts (is_after d.last) (cond (is_some d.last) (candidates d) (0 ∷ candidates d)) time
-    (least_of_parts (filter (is_after d.last) (cond (is_some d.last) (candidates d) (0 ∷ candidates d))) time e).0).0
+    (least_of_parts (filter (is_after d.last) (cond (is_some d.last) (candidates d) (0 ∷ candidates d))) time
+    comes).0).0
   where
     -- by whether the node has taken a turn; if not, 0 is an instant too
     go : (b : Bool) → Contains (cond b (candidates d) (0 ∷ candidates d)) time →
         Contains (cond b (fixed_times d.table) (0 ∷ fixed_times d.table)) time ⊎ Contains (end_times d) time
-    go true c = Contains-append_cases (fixed_times d.table) (end_times d) time c
-    go false c = elim (Contains-cases 0 (candidates d) time c) [
+    go true among = Contains-append_cases (fixed_times d.table) (end_times d) time among
+    go false among = elim (Contains-cases 0 (candidates d) time among) [
       | inl s ↦ inl (subst (Contains (0 ∷ fixed_times d.table)) s (Contains-first 0 (fixed_times d.table)))
       | inr m ↦ elim (Contains-append_cases (fixed_times d.table) (end_times d) time m) [
         | inl f ↦ inl (Contains-rest 0 (fixed_times d.table) time f)

@@ -12,9 +12,9 @@ use Rattle.cpg_node.proofs.Next.{least_of_parts}
 
 -- a member of a list that is above no other is the least
 pub least_is : (xs : List ℕ) (t : ℕ) → Contains xs t → ((x : ℕ) → Contains xs x → t ≤ x) → least_of xs ≡ Some t
-least_is [] t c l = absurd (Contains-nil t c)
-least_is (y ∷ ys) t c l = let p = least_of_parts (y ∷ ys) (fold min y ys) refl in
-    ap Some (omega (arith, p.1 t c, l (fold min y ys) p.0))
+least_is [] t among none_below = absurd (Contains-nil t among)
+least_is (y ∷ ys) t among none_below = let least = least_of_parts (y ∷ ys) (fold min y ys) refl in
+    ap Some (omega (arith, least.1 t among, none_below (fold min y ys) least.0))
 
 -- lists with the same members have the same least
 pub least_same : (xs ys : List ℕ) → ((x : ℕ) → Contains xs x → Contains ys x) →
@@ -22,8 +22,8 @@ pub least_same : (xs ys : List ℕ) → ((x : ℕ) → Contains xs x → Contain
     least_of xs ≡ least_of ys
 least_same [] [] to from = refl
 least_same [] (y ∷ ys) to from = absurd (Contains-nil y (from y (Contains-first y ys)))
-least_same (x ∷ xs) ys to from = let p = least_of_parts (x ∷ xs) (fold min x xs) refl in
-    sym (least_is ys (fold min x xs) (to (fold min x xs) p.0) (λ y c. p.1 y (from y c)))
+least_same (x ∷ xs) ys to from = let least = least_of_parts (x ∷ xs) (fold min x xs) refl in
+    sym (least_is ys (fold min x xs) (to (fold min x xs) least.0) (λ y c. least.1 y (from y c)))
 
 -- the least of a, b and ys is the lesser of a and of the least of b and ys; by induction on ys
 fold_min : (a b : ℕ) (ys : List ℕ) → fold min (min a b) ys ≡ min a (fold min b ys)
@@ -43,7 +43,7 @@ pub earlier_assoc : (a b c : Option ℕ) → earlier (earlier a b) c ≡ earlier
 earlier_assoc None b c = refl
 earlier_assoc (Some a) None c = refl
 earlier_assoc (Some a) (Some b) None = refl
-earlier_assoc (Some a) (Some b) (Some c) = let e : min (min a b) c ≡ min a (min b c) = omega arith in ap Some e
+earlier_assoc (Some a) (Some b) (Some c) = let same : min (min a b) c ≡ min a (min b c) = omega arith in ap Some same
 
 -- the least of a list is the earlier of its first time and of the least of the rest
 pub least_cons : (x : ℕ) (xs : List ℕ) → least_of (x ∷ xs) ≡ earlier (Some x) (least_of xs)
@@ -67,8 +67,8 @@ least_passing p xs ys = ap least_of (filter-append p xs ys) ∙ least_append (fi
 pub least_more : (p : ℕ → Bool) (first : Option ℕ) (xs ys : List ℕ) (whole : Option ℕ) →
     earlier first (least_of (filter p (xs ++ ys))) ≡ whole →
     earlier (earlier first (least_of (filter p xs))) (least_of (filter p ys)) ≡ whole
-least_more p first xs ys whole e = earlier_assoc first (least_of (filter p xs)) (least_of (filter p ys))
-    ∙ ap (earlier first) (sym (least_passing p xs ys)) ∙ e
+least_more p first xs ys whole same = earlier_assoc first (least_of (filter p xs)) (least_of (filter p ys))
+    ∙ ap (earlier first) (sym (least_passing p xs ys)) ∙ same
 
 -- the step of a loop over two lists whose elements, place by place, give times: if the least so far (`so_far`) and what
 -- the places from n on give make the whole, so do the least with the times of place n (`with_next`), and the places after it
@@ -78,12 +78,13 @@ pub least_zip : {A B : Type 0} (p : ℕ → Bool) (f : A → B → List ℕ) (n 
     with_next ≡ earlier so_far (least_of (filter p (f a (get_or rs n b)))) →
     earlier so_far (least_of (filter p (flat_map (λ l. l) (zip_with f (drop n os) (drop n rs))))) ≡ whole →
     earlier with_next (least_of (filter p (flat_map (λ l. l) (zip_with f (drop (n + 1) os) (drop (n + 1) rs))))) ≡ whole
-least_zip p f n os rs a b so_far with_next whole l e at is h =
+least_zip p f n os rs a b so_far with_next whole l same at is h =
     let rest = flat_map (λ l. l) (zip_with f (drop (n + 1) os) (drop (n + 1) rs)) in
     ap (λ o. earlier o (least_of (filter p rest))) is
     ∙ least_more p so_far (f a (get_or rs n b)) rest whole
     (ap (λ a. earlier so_far (least_of (filter p (f a (get_or rs n b) ++ rest)))) at
-    ∙ ap (λ l. earlier so_far (least_of (filter p (flat_map (λ l. l) l)))) (sym (zip_with-drop f n os rs a b l e)) ∙ h)
+    ∙ ap (λ l. earlier so_far (least_of (filter p (flat_map (λ l. l) l)))) (sym (zip_with-drop f n os rs a b l same))
+    ∙ h)
 
 -- the step of a loop over the times that f makes of a list: if the least so far and those from place n on make the
 -- whole, so do the least with that of place n (`end` if it passes), and those after it
@@ -93,9 +94,9 @@ pub least_map : (p : ℕ → Bool) (f : ℕ → ℕ) (n : ℕ) (ts : List ℕ) (
     with_next ≡ earlier so_far end →
     earlier so_far (least_of (filter p (map f (drop n ts)))) ≡ whole →
     earlier with_next (least_of (filter p (map f (drop (n + 1) ts)))) ≡ whole
-least_map p f n ts d so_far with_next end whole l at is h =
+least_map p f n ts d so_far with_next end whole l at is same =
     let rest = map f (drop (n + 1) ts) in
     ap (λ o. earlier o (least_of (filter p rest))) (is ∙ ap (earlier so_far) at)
     ∙ least_more p so_far (f (get_or ts n d) ∷ []) rest whole
     (ap (λ l. earlier so_far (least_of (filter p (map f l))))
-    (sym (drop-cons ts n d l ∙ ap (λ m. get_or ts n d ∷ drop m ts) (sym (add-one n)))) ∙ h)
+    (sym (drop-cons ts n d l ∙ ap (λ m. get_or ts n d ∷ drop m ts) (sym (add-one n)))) ∙ same)

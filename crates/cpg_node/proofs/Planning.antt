@@ -32,11 +32,11 @@ acts_more test p ps = go (test p)
 -- induction on the first
 pub plan_from-append : (place : ℕ) (xs ys : List Row) →
     plan_from place (xs ++ ys) ≡ plan_from place xs ++ plan_from (place + length xs) ys
-plan_from-append place [] ys = let e : place ≡ place + 0 = omega arith in ap (λ n. plan_from n ys) e
+plan_from-append place [] ys = let same : place ≡ place + 0 = omega arith in ap (λ n. plan_from n ys) same
 plan_from-append place (x ∷ xs) ys =
     ap (λ l. plan_of_columns place x.item 0 x.columns ++ l) (plan_from-append (place + 1) xs ys)
-    ∙ (let e : place + 1 + length xs ≡ place + suc (length xs) = omega arith in
-    ap (λ n. plan_of_columns place x.item 0 x.columns ++ (plan_from (place + 1) xs ++ plan_from n ys)) e
+    ∙ (let same : place + 1 + length xs ≡ place + suc (length xs) = omega arith in
+    ap (λ n. plan_of_columns place x.item 0 x.columns ++ (plan_from (place + 1) xs ++ plan_from n ys)) same
     ∙ sym (append_assoc (plan_of_columns place x.item 0 x.columns) (plan_from (place + 1) xs)
     (plan_from (place + suc (length xs)) ys)))
 
@@ -66,24 +66,26 @@ acts_of_row : (rows : List Row) (heard : List Range) (time place x i : ℕ) (cs 
     acts_of_columns heard time x i cs ≡ map act_of (filter (is_due rows heard time) (plan_of_columns place x i cs))
 acts_of_row rows heard time place x i [] at = refl
 acts_of_row rows heard time place x i (c ∷ cs) at =
-    let p : Planned = record { time = c.time; row = place; item = x; column = i } in
-    let same : is_due rows heard time p ≡ (c.time == time) && list_all (has_heard heard) c.cube =
+    let entry : Planned = record { time = c.time; row = place; item = x; column = i } in
+    let same : is_due rows heard time entry ≡ (c.time == time) && list_all (has_heard heard) c.cube =
     ap (λ (d : Column). (c.time == time) && list_all (has_heard heard) d.cube) (at 0 i (omega arith)) in
     let rest = acts_of_row rows heard time place x (i + 1) cs (λ k n e. at (suc k) n (omega arith)) in
-    go p ((c.time == time) && list_all (has_heard heard) c.cube) (is_due rows heard time p) same
-    (λ h. eqb-true c.time time (and_parts (c.time == time) (list_all (has_heard heard) c.cube) h).0)
+    go entry ((c.time == time) && list_all (has_heard heard) c.cube) (is_due rows heard time entry) same
+    (λ due. eqb-true c.time time (and_parts (c.time == time) (list_all (has_heard heard) c.cube) due).0)
     (filter (is_due rows heard time) (plan_of_columns place x (i + 1) cs))
     (acts_of_columns heard time x (i + 1) cs) rest
   where
     -- by whether the entry is due, that is, has this time and literals that have all been heard
-    go : (p : Planned) (b e : Bool) → e ≡ b → (b ≡ true → p.time ≡ time) → (ps : List Planned) (acts : List Act) →
+    go : (entry : Planned) (b e : Bool) → e ≡ b → (b ≡ true → entry.time ≡ time) →
+        (ps : List Planned) (acts : List Act) →
         acts ≡ map act_of ps →
-        cond b (record { time = time; item = p.item; column = p.column } ∷ []) []
-        ++ acts ≡ map act_of (cond e (p ∷ ps) ps)
-    go p true e s t ps acts r =
-        ap₂ (λ (n : ℕ) (l : List Act). record { time = n; item = p.item; column = p.column } ∷ l) (sym (t refl)) r
-        ∙ ap (λ e. map act_of (cond e (p ∷ ps) ps)) (sym s)
-    go p false e s t ps acts r = r ∙ ap (λ e. map act_of (cond e (p ∷ ps) ps)) (sym s)
+        cond b (record { time = time; item = entry.item; column = entry.column } ∷ []) []
+        ++ acts ≡ map act_of (cond e (entry ∷ ps) ps)
+    go entry true e same on_time ps acts r =
+        ap₂ (λ (n : ℕ) (l : List Act). record { time = n; item = entry.item; column = entry.column } ∷ l)
+        (sym (on_time refl)) r
+        ∙ ap (λ e. map act_of (cond e (entry ∷ ps) ps)) (sym same)
+    go entry false e same on_time ps acts r = r ∙ ap (λ e. map act_of (cond e (entry ∷ ps) ps)) (sym same)
 
 -- the acts of rows are those of their planned entries that are due; by induction on the rows, which are those of all
 -- from `place` on
@@ -95,7 +97,7 @@ acts_of_rows all heard time place [] at = refl
 acts_of_rows all heard time place (row ∷ rows) at =
     ap₂ ◌++◌ (acts_of_row all heard time place row.item 0 row.columns
     (λ k n e. ap (λ (r : Row). get_or r.columns n no_column) (at 0 place (omega arith))
-    ∙ ap (λ n. get_or row.columns n no_column) (let m : n ≡ k = omega arith in m)))
+    ∙ ap (λ n. get_or row.columns n no_column) (let same : n ≡ k = omega arith in same)))
     (acts_of_rows all heard time (place + 1) rows (λ k n e. at (suc k) n (omega arith)))
     ∙ sym (ap (map act_of) (filter-append (is_due all heard time) (plan_of_columns place row.item 0 row.columns)
     (plan_from (place + 1) rows))
@@ -106,7 +108,7 @@ acts_of_rows all heard time place (row ∷ rows) at =
 acts_planned : (t : OwnTable) (heard : List Range) (time : ℕ) →
     acts_at t heard time ≡ map act_of (filter (is_due (t.sends ++ t.starts) heard time) (plan_of t))
 acts_planned t heard time = acts_of_rows (t.sends ++ t.starts) heard time 0 (t.sends ++ t.starts)
-    (λ k n e. ap (λ n. get_or (t.sends ++ t.starts) n no_row) (let m : n ≡ k = omega arith in m))
+    (λ k n e. ap (λ n. get_or (t.sends ++ t.starts) n no_row) (let same : n ≡ k = omega arith in same))
 
 -- to filter by two tests at once is to filter by the one and then by the other
 filter_both : {X : Type 0} (p q : X → Bool) (xs : List X) → filter (λ x. p x && q x) xs ≡ filter q (filter p xs)
@@ -117,8 +119,8 @@ filter_both p q (x ∷ xs) = go (p x) (filter_both p q xs)
     go : (b : Bool) → filter (λ x. p x && q x) xs ≡ filter q (filter p xs) →
         cond (b && q x) (x ∷ filter (λ x. p x && q x) xs) (filter (λ x. p x && q x) xs) ≡ filter q
         (cond b (x ∷ filter p xs) (filter p xs))
-    go true e = ap (λ l. cond (q x) (x ∷ l) l) e
-    go false e = e
+    go true same = ap (λ l. cond (q x) (x ∷ l) l) same
+    go false same = same
 
 -- the acts of a time are those of its entries in a plan that has the same entries at each time, in the same order
 pub acts_same : (t : OwnTable) (heard : List Range) (time : ℕ) (plan : List Planned) → SameAtEachTime plan (plan_of t) →
@@ -135,7 +137,7 @@ pub filter_run : {X : Type 0} (test : X → Bool) (xs : List X) (first end : ℕ
     ((i : ℕ) (d : X) → first ≤ i → i < end → test (get_or xs i d) ≡ true) →
     ((i : ℕ) (d : X) → end ≤ i → i < length xs → test (get_or xs i d) ≡ false) →
     filter test xs ≡ take (end - first) (drop first xs)
-filter_run {X = X} test [] first end a b before in' after = sym (empty first (end - first))
+filter_run {X = X} test [] first end ordered within before in' after = sym (empty first (end - first))
   where
     -- each part of an empty list is empty
     empty : (n m : ℕ) → take {A = X} m (drop n []) ≡ []
@@ -143,24 +145,25 @@ filter_run {X = X} test [] first end a b before in' after = sym (empty first (en
     empty zero (suc m) = refl
     empty (suc n) zero = refl
     empty (suc n) (suc m) = refl
-filter_run test (x ∷ xs) zero zero a b before in' after =
+filter_run test (x ∷ xs) zero zero ordered within before in' after =
     cond-false _ (x ∷ filter test xs) (filter test xs) (after 0 x (omega arith) (omega arith))
-    ∙ filter_run test xs zero zero a (omega arith) (λ i d h. absurd (omega arith)) (λ i d h k. absurd (omega arith))
+    ∙ filter_run test xs zero zero ordered (omega arith) (λ i d h. absurd (omega arith))
+    (λ i d h k. absurd (omega arith))
     (λ i d h k. after (suc i) d (omega arith) (omega arith))
-filter_run test (x ∷ xs) zero (suc end) a b before in' after =
+filter_run test (x ∷ xs) zero (suc end) ordered within before in' after =
     cond-true _ (x ∷ filter test xs) (filter test xs) (in' 0 x (omega arith) (omega arith))
     ∙ ap (λ l. x ∷ l) (filter_run test xs zero end (omega arith) (omega arith) (λ i d h. absurd (omega arith))
     (λ i d h k. in' (suc i) d (omega arith) (omega arith))
     (λ i d h k. after (suc i) d (omega arith) (omega arith))
-    ∙ ap (λ n. take n xs) (let e : end - 0 ≡ end = omega arith in e))
-    ∙ ap (λ n. take n (x ∷ xs)) (let e : suc end ≡ suc end - 0 = omega arith in e)
-filter_run test (x ∷ xs) (suc first) zero a b before in' after = absurd (omega arith)
-filter_run test (x ∷ xs) (suc first) (suc end) a b before in' after =
+    ∙ ap (λ n. take n xs) (let same : end - 0 ≡ end = omega arith in same))
+    ∙ ap (λ n. take n (x ∷ xs)) (let same : suc end ≡ suc end - 0 = omega arith in same)
+filter_run test (x ∷ xs) (suc first) zero ordered within before in' after = absurd (omega arith)
+filter_run test (x ∷ xs) (suc first) (suc end) ordered within before in' after =
     cond-false _ (x ∷ filter test xs) (filter test xs) (before 0 x (omega arith))
     ∙ filter_run test xs first end (omega arith) (omega arith) (λ i d h. before (suc i) d (omega arith))
     (λ i d h k. in' (suc i) d (omega arith) (omega arith))
     (λ i d h k. after (suc i) d (omega arith) (omega arith))
-    ∙ ap (λ n. take n (drop first xs)) (let e : end - first ≡ suc end - suc first = omega arith in e)
+    ∙ ap (λ n. take n (drop first xs)) (let same : end - first ≡ suc end - suc first = omega arith in same)
 
 -- the step of a loop over entries: if the acts so far and those of the entries from n on are all, so are the acts with
 -- that of entry n, if it passes, and those of the entries after it
@@ -169,26 +172,27 @@ pub acts_next : (test : Planned → Bool) (ps : List Planned) (n : ℕ) (d : Pla
     acts ++ map act_of (filter test (drop n ps)) ≡ map act_of (filter test ps) →
     more ≡ acts ++ map act_of (filter test (get_or ps n d ∷ [])) →
     more ++ map act_of (filter test (drop (n + 1) ps)) ≡ map act_of (filter test ps)
-acts_next test ps n d acts more l is m =
+acts_next test ps n d acts more inside is more_is =
     let rest = map act_of (filter test (drop (n + 1) ps)) in
-    ap (λ l. l ++ rest) m ∙ append_assoc acts (map act_of (filter test (get_or ps n d ∷ []))) rest
-    ∙ ap (λ l. acts ++ l) (sym (ap (λ l. map act_of (filter test l)) (drop-cons ps n d l
-    ∙ ap (λ m. get_or ps n d ∷ drop m ps) (sym (add-one n))) ∙ acts_more test (get_or ps n d) (drop (n + 1) ps)))
+    ap (λ l. l ++ rest) more_is ∙ append_assoc acts (map act_of (filter test (get_or ps n d ∷ []))) rest
+    ∙ ap (λ l. acts ++ l) (sym (ap (λ l. map act_of (filter test l)) (drop-cons ps n d inside
+    ∙ ap (λ m. get_or ps n d ∷ drop m ps) (sym (add-one n)))
+    ∙ acts_more test (get_or ps n d) (drop (n + 1) ps)))
     ∙ is
 
 -- ---- members of plans
 
 -- an entry of one of two plans with the same entries at each time is one of the other
 pub planned_in : (ps qs : List Planned) → SameAtEachTime ps qs → (p : Planned) → Contains ps p → Contains qs p
-planned_in ps qs same p c = (Contains-filter_parts (λ (q : Planned). q.time == p.time) qs p
+planned_in ps qs same p among = (Contains-filter_parts (λ (q : Planned). q.time == p.time) qs p
     (subst (λ l. Contains l p) (same p.time)
-    (Contains-filter (λ (q : Planned). q.time == p.time) ps p (eq-eqb p.time p.time refl) c))).0
+    (Contains-filter (λ (q : Planned). q.time == p.time) ps p (eq-eqb p.time p.time refl) among))).0
 
 -- the time of a planned entry is a time of the table
 pub planned_time : (t : OwnTable) (p : Planned) → Contains (plan_of t) p →
     Contains (times_in (t.sends ++ t.starts)) p.time
-planned_time t p c = subst (λ l. Contains l p.time) (plan_times 0 (t.sends ++ t.starts))
-    (Contains-map (λ (p : Planned). p.time) (plan_of t) p c)
+planned_time t p among = subst (λ l. Contains l p.time) (plan_times 0 (t.sends ++ t.starts))
+    (Contains-map (λ (p : Planned). p.time) (plan_of t) p among)
 
 -- ---- two times of which neither is less, as `nat_cmp` has it, are the same
 
@@ -200,11 +204,11 @@ tie_is a b = grind (arith, nat_tests)
 pub same_from_stable : (xs ys : List Planned) → IsStableByKey (λ (p : Planned). p.time) nat_cmp xs ys →
     SameAtEachTime ys xs
 same_from_stable xs ys stable time =
-    let x : Planned = record { time = time; row = 0; item = 0; column = 0 } in
+    let probe : Planned = record { time = time; row = 0; item = 0; column = 0 } in
     same_filter (λ (p : Planned). p.time == time)
     (λ p. not (is_lt (nat_cmp time p.time)) && not (is_lt (nat_cmp p.time time))) ys
     (λ p c. sym (tie_is time p.time))
-    ∙ stable x ∙ same_filter (λ p. not (is_lt (nat_cmp time p.time)) && not (is_lt (nat_cmp p.time time)))
+    ∙ stable probe ∙ same_filter (λ p. not (is_lt (nat_cmp time p.time)) && not (is_lt (nat_cmp p.time time)))
     (λ (p : Planned). p.time == time) xs (λ p c. tie_is time p.time)
 
 -- the plan of the sends (`one`) and after it that of the starts, whose places begin after the n sends (`two`), is that
@@ -213,7 +217,7 @@ pub planned_is : (t : OwnTable) (new one two : List Planned) (sends starts : Lis
     sends ≡ t.sends → starts ≡ t.starts →
     n ≡ length t.sends →
     one ≡ new ++ plan_from 0 sends → two ≡ one ++ plan_from n starts → two ≡ plan_of t
-planned_is t new one two sends starts n a b c d e f =
-    f ∙ ap₂ ◌++◌ (e ∙ ap (λ l. l ++ plan_from 0 sends) a ∙ ap (plan_from 0) b)
-    (ap₂ plan_from (d ∙ (let z : length t.sends ≡ 0 + length t.sends = omega arith in z)) c)
+planned_is t new one two sends starts n none sends_are starts_are count one_is two_is =
+    two_is ∙ ap₂ ◌++◌ (one_is ∙ ap (λ l. l ++ plan_from 0 sends) none ∙ ap (plan_from 0) sends_are)
+    (ap₂ plan_from (count ∙ (let same : length t.sends ≡ 0 + length t.sends = omega arith in same)) starts_are)
     ∙ sym (plan_from-append 0 t.sends t.starts)

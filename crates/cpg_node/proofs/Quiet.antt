@@ -26,10 +26,10 @@ use Rattle.cpg_node.specs.Quiet.{AwaitedAreCandidates}
 -- a turn without ends and acts leaves all executions as they are
 same_runs : (time : ℕ) (os : List Own) (runs : List (Option Running)) → length runs ≡ length os →
     zip_with (running_after [] [] time) os runs ≡ runs
-same_runs time [] [] e = refl
-same_runs time [] (run ∷ runs) e = absurd (omega arith)
-same_runs time (o ∷ os) [] e = absurd (omega arith)
-same_runs time (o ∷ os) (run ∷ runs) e = ap (λ l. run ∷ l) (same_runs time os runs (omega arith))
+same_runs time [] [] same = refl
+same_runs time [] (run ∷ runs) same = absurd (omega arith)
+same_runs time (o ∷ os) [] same = absurd (omega arith)
+same_runs time (o ∷ os) (run ∷ runs) same = ap (λ l. run ∷ l) (same_runs time os runs (omega arith))
 
 -- a quiet turn (no end is due, and no act) changes nothing but the last instant, and does nothing
 pub quiet_turns : QuietTurnsChangeNothing
@@ -69,8 +69,8 @@ no_acts_in heard time (row ∷ rows) n =
 in_rows : (rows : List Row) (row : Row) (time : ℕ) → Contains rows row →
     Contains (map (λ (c : Column). c.time) row.columns) time →
     Contains (times_in rows) time
-in_rows rows row time m c =
-    Contains-flat_map (λ (row : Row). map (λ (c : Column). c.time) row.columns) rows row time m c
+in_rows rows row time among c =
+    Contains-flat_map (λ (row : Row). map (λ (c : Column). c.time) row.columns) rows row time among c
 
 -- at a time at which no end is awaited no report is due; by induction on the own processes: a report that is due then
 -- is of an end that is awaited then
@@ -130,11 +130,11 @@ HasAll k o = length o.times ≡ k + 1
 -- which each has k + 1 durations
 own_all : (k n node p c : ℕ) (qs : List HeadProcess) → All (IsHeadProcess k n) qs →
     All (HasAll k) (own_from node p c qs)
-own_all k n node p c [] h = All-nil (HasAll k)
-own_all k n node p c (q ∷ qs) h =
+own_all k n node p c [] each = All-nil (HasAll k)
+own_all k n node p c (q ∷ qs) each =
     All-append (HasAll k) (own_front node p c q) (own_from node (p + 1) (cond q.condition (c + 1) c) qs)
     (front (q.node == node))
-    (own_all k n node (p + 1) (cond q.condition (c + 1) c) qs (All-tail (IsHeadProcess k n) q qs h))
+    (own_all k n node (p + 1) (cond q.condition (c + 1) c) qs (All-tail (IsHeadProcess k n) q qs each))
   where
     -- by whether the first process is on the node
     front : (b : Bool) →
@@ -142,14 +142,15 @@ own_all k n node p c (q ∷ qs) h =
         (cond b (record { process = p; condition = cond q.condition (Some c) None; times = q.times } ∷ []) [])
     front true =
         All-cons (HasAll k) (record { process = p; condition = cond q.condition (Some c) None; times = q.times }) []
-        ((All-head (IsHeadProcess k n) q qs h).count) (All-nil (HasAll k))
+        ((All-head (IsHeadProcess k n) q qs each).count) (All-nil (HasAll k))
     front false = All-nil (HasAll k)
 
 -- a lawful table says of each of its processes how long it lasts with each number of faults
 own_has : (t : NodeTable) → IsTable t → All (HasAll t.faults) t.own
-own_has t h = subst (λ k. All (HasAll k) t.own) (sym h.of.faults)
-    (subst (All (HasAll h.head.faults)) (sym h.of.own)
-    (own_all h.head.faults (length h.head.nodes) h.node 0 0 h.head.processes h.lawful.processes))
+own_has t is_table = subst (λ k. All (HasAll k) t.own) (sym is_table.of.faults)
+    (subst (All (HasAll is_table.head.faults)) (sym is_table.of.own)
+    (own_all is_table.head.faults (length is_table.head.nodes) is_table.node 0 0 is_table.head.processes
+    is_table.lawful.processes))
 
 -- the faults of an awaited end, k if none was reported, are at most k
 few_faults : (k : ℕ) (r : Option Ended) → IfSome r (λ (e : Ended). e.faults ≤ k) → awaited_faults k r ≤ k
@@ -162,22 +163,24 @@ possible : (k : ℕ) (os : List Own) (runs : List (Option Running)) → All (Has
     (time : ℕ) →
     Contains (flat_map (λ ends. ends) (zip_with (awaited_end k) os runs)) time →
     Contains (flat_map (λ ends. ends) (zip_with possible_ends os runs)) time
-possible k [] runs a f time m = absurd (Contains-nil time m)
-possible k (o ∷ os) [] a f time m = absurd (Contains-nil time m)
-possible k (o ∷ os) (None ∷ runs) a f time m =
-    possible k os runs (All-tail (HasAll k) o os a) (All-tail (TellsFew k) None runs f) time m
-possible k (o ∷ os) (Some run ∷ runs) a f time m =
-    let n = awaited_faults k run.report in
-    let few : n ≤ k = few_faults k run.report (All-head (TellsFew k) (Some run) runs f) in
-    let all : length o.times ≡ k + 1 = All-head (HasAll k) o os a in
+possible k [] runs full few_told time among = absurd (Contains-nil time among)
+possible k (o ∷ os) [] full few_told time among = absurd (Contains-nil time among)
+possible k (o ∷ os) (None ∷ runs) full few_told time among =
+    possible k os runs (All-tail (HasAll k) o os full) (All-tail (TellsFew k) None runs few_told) time among
+possible k (o ∷ os) (Some run ∷ runs) full few_told time among =
+    let told = awaited_faults k run.report in
+    let few : told ≤ k = few_faults k run.report (All-head (TellsFew k) (Some run) runs few_told) in
+    let all : length o.times ≡ k + 1 = All-head (HasAll k) o os full in
     let mine : List ℕ = map (λ d. run.start + d) o.times in
     let rest : List ℕ = flat_map (λ ends. ends) (zip_with possible_ends os runs) in
-    elim (Contains-cases (run.start + get_or o.times n 0)
-    (flat_map (λ ends. ends) (zip_with (awaited_end k) os runs)) time m) [
-      | inl e ↦ Contains-append_left mine rest time (subst (Contains mine) e (Contains-map (λ d. run.start + d) o.times
-          (get_or o.times n 0) (Contains-get_or o.times n 0 (omega (arith, few, all)))))
-      | inr r ↦ Contains-append_right mine rest time
-          (possible k os runs (All-tail (HasAll k) o os a) (All-tail (TellsFew k) (Some run) runs f) time r)
+    elim (Contains-cases (run.start + get_or o.times told 0)
+    (flat_map (λ ends. ends) (zip_with (awaited_end k) os runs)) time among) [
+      | inl is ↦ Contains-append_left mine rest time (subst (Contains mine) is
+          (Contains-map (λ d. run.start + d) o.times
+          (get_or o.times told 0) (Contains-get_or o.times told 0 (omega (arith, few, all)))))
+      | inr in_rest ↦ Contains-append_right mine rest time
+          (possible k os runs (All-tail (HasAll k) o os full) (All-tail (TellsFew k) (Some run) runs few_told) time
+          in_rest)
     ]
 
 -- each awaited instant is a candidate: a time of the table, or an awaited end

@@ -58,19 +58,19 @@ rows_few heard time (row ∷ rows) =
 
 -- what is no earlier than a time that is after the last turn is after the last turn too
 pub after_later : (last : Option ℕ) (time x : ℕ) → is_after last time ≡ true → time ≤ x → is_after last x ≡ true
-after_later None time x a h = refl
-after_later (Some l) time x a h = lt-ltb l x (omega (arith, ltb-true l time a, h))
+after_later None time x after h = refl
+after_later (Some l) time x after h = lt-ltb l x (omega (arith, ltb-true l time after, h))
 
 -- of times, those of a turn and those after it are no more than those after the last turn; by induction: each time
 -- counts once at most on the left, and then on the right
 left_then : (last : Option ℕ) (time : ℕ) → is_after last time ≡ true → (ts : List ℕ) →
     length (now time ts) + length (filter (is_after (Some time)) ts) ≤ length (filter (is_after last) ts)
-left_then last time a [] = omega arith
-left_then last time a (t ∷ ts) = go (t == time) (ltb time t) (is_after last t)
+left_then last time after [] = omega arith
+left_then last time after (t ∷ ts) = go (t == time) (ltb time t) (is_after last t)
     (λ e f. omega (arith, eqb-true t time e, ltb-true time t f))
-    (λ e. after_later last time t a (omega (arith, eqb-true t time e)))
-    (λ f. after_later last time t a (omega (arith, ltb-true time t f)))
-    (left_then last time a ts)
+    (λ e. after_later last time t after (omega (arith, eqb-true t time e)))
+    (λ f. after_later last time t after (omega (arith, ltb-true time t f)))
+    (left_then last time after ts)
   where
     -- by whether the first time is that of the turn, is after it, and is after the last turn
     go : (e f b : Bool) → (e ≡ true → f ≡ true → ⊥) → (e ≡ true → b ≡ true) → (f ≡ true → b ≡ true) →
@@ -78,22 +78,22 @@ left_then last time a (t ∷ ts) = go (t == time) (ltb time t) (is_after last t)
         length (cond e (t ∷ now time ts) (now time ts))
         + length (cond f (t ∷ filter (is_after (Some time)) ts) (filter (is_after (Some time)) ts)) ≤ length
         (cond b (t ∷ filter (is_after last) ts) (filter (is_after last) ts))
-    go true true b apart x y h = absurd (apart refl refl)
-    go true false true apart x y h = omega (arith, h)
-    go true false false apart x y h = absurd (true≢false (sym (x refl)))
-    go false true true apart x y h = omega (arith, h)
-    go false true false apart x y h = absurd (true≢false (sym (y refl)))
-    go false false true apart x y h = omega (arith, h)
-    go false false false apart x y h = h
+    go true true b apart first_kept second_kept h = absurd (apart refl refl)
+    go true false true apart first_kept second_kept h = omega (arith, h)
+    go true false false apart first_kept second_kept h = absurd (true≢false (sym (first_kept refl)))
+    go false true true apart first_kept second_kept h = omega (arith, h)
+    go false true false apart first_kept second_kept h = absurd (true≢false (sym (second_kept refl)))
+    go false false true apart first_kept second_kept h = omega (arith, h)
+    go false false false apart first_kept second_kept h = h
 
 -- the acts of a turn and the entries left after it are no more than the entries that were left before it
 pub room_turn : (d : Dispatcher) (time : ℕ) (frames : List Frame) → next d ≡ Some time →
     length (acts_of_turn d time [] frames) + length (entries_left (turn d time [] frames)) ≤ length
     (entries_left d)
-room_turn d time frames e = omega (
+room_turn d time frames comes = omega (
   arith,
   rows_few (heard_after d time [] frames) time (d.table.sends ++ d.table.starts),
-  left_then d.last time (next_is d time e).after (times_in (d.table.sends ++ d.table.starts)),
+  left_then d.last time (next_is d time comes).after (times_in (d.table.sends ++ d.table.starts)),
 )
 
 -- no more times pass a test than there are

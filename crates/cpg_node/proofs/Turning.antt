@@ -37,12 +37,12 @@ place_open time xs up =
 -- no number is less than 0
 fold_zero : (xs : List ℕ) → fold min 0 xs ≡ 0
 fold_zero [] = refl
-fold_zero (x ∷ xs) = let e : min 0 x ≡ 0 = omega arith in ap (λ n. fold min n xs) e ∙ fold_zero xs
+fold_zero (x ∷ xs) = let same : min 0 x ≡ 0 = omega arith in ap (λ n. fold min n xs) same ∙ fold_zero xs
 
 -- before the first turn the next instant is 0, which is a candidate besides then
 pub next_open : (d : Dispatcher) → d.last ≡ None → Some 0 ≡ next d
-next_open d e =
-    sym (ap (λ last. least_of (filter (is_after last) (cond (is_some last) (candidates d) (0 ∷ candidates d)))) e
+next_open d none =
+    sym (ap (λ last. least_of (filter (is_after last) (cond (is_some last) (candidates d) (0 ∷ candidates d)))) none
     ∙ ap Some (fold_zero (filter (is_after None) (candidates d))))
 
 -- After a turn the next instant is the table's time at the place, or the least possible end after the turn if that is
@@ -55,22 +55,22 @@ pub next_found : (table : OwnTable) (heard : List Range) (running : List (Option
     next (record { table = table; heard = heard; running = running; last = Some last })
     ≡ earlier (slice_get times place)
     (least_of (filter (is_after (Some last)) (flat_map (λ ends. ends) (zip_with possible_ends table.own running))))
-next_found table heard running last times place p at_place =
-    let a = is_after (Some last) in
+next_found table heard running last times place permuted at_place =
+    let late = is_after (Some last) in
     let ends : List ℕ = flat_map (λ ends. ends) (zip_with possible_ends table.own running) in
-    let d : Dispatcher = record { table = table; heard = heard; running = running; last = Some last } in
-    let parts : candidates d ≡ fixed_times table ++ ends = refl in
-    ap (λ l. least_of (filter a l)) parts ∙ least_passing a (fixed_times table) ends
-    ∙ ap (λ o. earlier o (least_of (filter a ends)))
-    (least_same (filter a (fixed_times table)) (filter a times) (kept (fixed_times table) times p)
-    (kept times (fixed_times table) (IsPermutation-sym (fixed_times table) times p)) ∙
+    let node : Dispatcher = record { table = table; heard = heard; running = running; last = Some last } in
+    let parts : candidates node ≡ fixed_times table ++ ends = refl in
+    ap (λ l. least_of (filter late l)) parts ∙ least_passing late (fixed_times table) ends
+    ∙ ap (λ o. earlier o (least_of (filter late ends)))
+    (least_same (filter late (fixed_times table)) (filter late times) (kept (fixed_times table) times permuted)
+    (kept times (fixed_times table) (IsPermutation-sym (fixed_times table) times permuted)) ∙
     sym (first_left last times place at_place))
   where
     -- permuted lists have the same times after the last turn
     kept : (xs ys : List ℕ) → IsPermutation xs ys → (x : ℕ) → Contains (filter (is_after (Some last)) xs) x →
         Contains (filter (is_after (Some last)) ys) x
-    kept xs ys p x c = let r = Contains-filter_parts (is_after (Some last)) xs x c in
-        Contains-filter (is_after (Some last)) ys x r.1 (Contains-permutation xs ys x p r.0)
+    kept xs ys permuted x among = let parts = Contains-filter_parts (is_after (Some last)) xs x among in
+        Contains-filter (is_after (Some last)) ys x parts.1 (Contains-permutation xs ys x permuted parts.0)
 
 -- ---- a report changes no time
 
@@ -99,28 +99,29 @@ pub next_reported : (e : Ended) (table : OwnTable) (heard : List Range) (running
     next (record { table = table; heard = heard; running = zip_with (with_report e) table.own running; last = last })
     ≡ next (record { table = table; heard = heard; running = running; last = last })
 next_reported e table heard running last = ap
-    (λ l. let c = times_in table.starts ++ times_in table.sends ++ times_in table.hears ++ flat_map (λ ends. ends) l in
-    least_of (filter (is_after last) (cond (is_some last) c (0 ∷ c)))) (ends_reported e table.own running)
+    (λ l. let times = times_in table.starts ++ times_in table.sends ++ times_in table.hears ++ flat_map (λ ends. ends)
+    l in
+    least_of (filter (is_after last) (cond (is_some last) times (0 ∷ times)))) (ends_reported e table.own running)
 
 -- a report leaves the start of an execution as it is
 timed_report : (e : Ended) (o : Own) (run : Option Running) → IsTimed run → IsTimed (with_report e o run)
-timed_report e o None h = h
-timed_report e o (Some run) h = go (o.process == e.process)
+timed_report e o None is_timed = is_timed
+timed_report e o (Some run) is_timed = go (o.process == e.process)
   where
     -- by whether the report is of this process
     go : (b : Bool) → IsTimed (cond b (Some (record { start = run.start; report = Some e })) (Some run))
-    go true = h
-    go false = h
+    go true = is_timed
+    go false = is_timed
 
 -- if f leaves each start below 2^60, so it does place by place; by induction on the own processes
 timed_zip : (f : Own → Option Running → Option Running) →
     ((o : Own) (run : Option Running) → IsTimed run → IsTimed (f o run)) →
     (os : List Own) (runs : List (Option Running)) → AreTimed runs →
     AreTimed (zip_with f os runs)
-timed_zip f keep [] runs h = All-nil IsTimed
-timed_zip f keep (o ∷ os) [] h = All-nil IsTimed
-timed_zip f keep (o ∷ os) (run ∷ runs) h = All-cons IsTimed (f o run) (zip_with f os runs)
-    (keep o run (All-head IsTimed run runs h)) (timed_zip f keep os runs (All-tail IsTimed run runs h))
+timed_zip f keep [] runs are_timed = All-nil IsTimed
+timed_zip f keep (o ∷ os) [] are_timed = All-nil IsTimed
+timed_zip f keep (o ∷ os) (run ∷ runs) are_timed = All-cons IsTimed (f o run) (zip_with f os runs)
+    (keep o run (All-head IsTimed run runs are_timed)) (timed_zip f keep os runs (All-tail IsTimed run runs are_timed))
 
 -- after a report all starts are still below 2^60
 pub timed_reported : (e : Ended) (os : List Own) (runs : List (Option Running)) → AreTimed runs →
@@ -132,20 +133,21 @@ timed_reported e = timed_zip (with_report e) (timed_report e)
 timed_after : (ended : List Ended) (acts : List Act) (time : ℕ) → (0 < length acts → time < 2 ^ 60) →
     (o : Own) (run : Option Running) → IsTimed run →
     IsTimed (running_after ended acts time o run)
-timed_after ended acts time early o run h =
-    go (list_any (λ (a : Act). a.item == o.process) acts) refl (list_any (λ (e : Ended). e.process == o.process) ended)
+timed_after ended acts time early o run timed =
+    go (list_any (λ (a : Act). a.item == o.process) acts) refl
+    (list_any (λ (e : Ended). e.process == o.process) ended)
   where
     -- if an act starts the process, there is an act
     some : (acts : List Act) → list_any (λ (a : Act). a.item == o.process) acts ≡ true → 0 < length acts
-    some [] e = absurd (true≢false (sym e))
-    some (a ∷ acts) e = omega arith
+    some [] answer = absurd (true≢false (sym answer))
+    some (a ∷ acts) answer = omega arith
 
     -- by whether an act starts the process, and whether an end is of it
     go : (b : Bool) → list_any (λ (a : Act). a.item == o.process) acts ≡ b → (c : Bool) →
         IsTimed (cond b (Some (record { start = time; report = None })) (cond c None run))
-    go true e c = early (some acts e)
-    go false e true = tt
-    go false e false = h
+    go true answer c = early (some acts answer)
+    go false answer true = tt
+    go false answer false = timed
 
 -- after a turn all starts are still below 2^60, as each is (`timed_after`)
 pub timed_turn : (ended : List Ended) (acts : List Act) (time : ℕ) → (0 < length acts → time < 2 ^ 60) →
@@ -156,9 +158,9 @@ timed_turn ended acts time early = timed_zip (running_after ended acts time) (ti
 -- two lists of one length, zipped, have that length
 pub length_zip : {A B C : Type 0} (f : A → B → C) (os : List A) (rs : List B) → length rs ≡ length os →
     length (zip_with f os rs) ≡ length os
-length_zip f [] rs e = refl
-length_zip f (o ∷ os) [] e = absurd (omega arith)
-length_zip f (o ∷ os) (r ∷ rs) e = ap (λ n. suc n) (length_zip f os rs (omega arith))
+length_zip f [] rs same = refl
+length_zip f (o ∷ os) [] same = absurd (omega arith)
+length_zip f (o ∷ os) (r ∷ rs) same = ap (λ n. suc n) (length_zip f os rs (omega arith))
 
 -- ---- what a turn does
 
@@ -171,15 +173,16 @@ pub turn_is : (table : OwnTable) (heard : List Range) (running : List (Option Ru
     known ≡ fold (hear_frame table) (fold (hear_end table) (fold (hear_end table) heard ended) due) frames →
     acts ≡ acts_at table known time →
     runs ≡ zip_with (running_after (ended ++ due) acts time) table.own running →
-    let d : Dispatcher = record { table = table; heard = heard; running = running; last = last } in
-    (record { table = table; heard = known; running = runs; last = Some time } ≡ turn d time ended frames) ×
-    (acts ≡ acts_of_turn d time ended frames)
-turn_is table heard running last time ended due frames known acts runs is h a r =
-    let d : Dispatcher = record { table = table; heard = heard; running = running; last = last } in
-    let heard' : known ≡ heard_after d time ended frames = h ∙ ap (λ l. fold (hear_frame table) l frames)
+    let before : Dispatcher = record { table = table; heard = heard; running = running; last = last } in
+    (record { table = table; heard = known; running = runs; last = Some time } ≡ turn before time ended frames) ×
+    (acts ≡ acts_of_turn before time ended frames)
+turn_is table heard running last time ended due frames known acts runs is same a r =
+    let before : Dispatcher = record { table = table; heard = heard; running = running; last = last } in
+    let heard' : known ≡ heard_after before time ended frames = same ∙ ap (λ l. fold (hear_frame table) l frames)
     (sym (fold-append (hear_end table) heard ended due) ∙ ap (λ l. fold (hear_end table) heard (ended ++ l)) is) in
-    let acts' : acts ≡ acts_of_turn d time ended frames = a ∙ ap (λ l. acts_at table l time) heard' in
-    let runs' : runs ≡ zip_with (running_after (ends_in_turn d time ended) (acts_of_turn d time ended frames) time)
+    let acts' : acts ≡ acts_of_turn before time ended frames = a ∙ ap (λ l. acts_at table l time) heard' in
+    let runs' : runs ≡ zip_with (running_after (ends_in_turn before time ended) (acts_of_turn before time ended frames)
+    time)
     table.own running =
     r ∙ ap₂ (λ es bs. zip_with (running_after (ended ++ es) bs time) table.own running) is acts' in
     ((λ i. record { table = table; heard = heard' i; running = runs' i; last = Some time }), acts')
@@ -235,27 +238,27 @@ module _ (table : OwnTable) (heard : List Range) (running : List (Option Running
 
   -- the time of each entry of the plan is a candidate
   candidate : (i : ℕ) (d : Planned) → i < length plan → Contains (candidates node) (get_or plan i d).time
-  candidate i d l = planned_time' (get_or plan i d).time (planned_time table (get_or plan i d)
-      (planned_in plan (plan_of table) same (get_or plan i d) (Contains-get_or plan i d l)))
+  candidate i d inside = planned_time' (get_or plan i d).time (planned_time table (get_or plan i d)
+      (planned_in plan (plan_of table) same (get_or plan i d) (Contains-get_or plan i d inside)))
 
   -- the entries from the place to the end have the instant's time: they are no later, and as candidates that are left
   -- they are no earlier
   at_time : (i : ℕ) (d : Planned) → place ≤ i → i < end → (get_or plan i d).time ≡ time
-  at_time i d k l = omega (
+  at_time i d k below = omega (
     arith,
-    before' i d k l,
+    before' i d k below,
     next'.least (get_or plan i d).time (candidate i d (omega (arith, within)))
         (not_by last (get_or plan i d).time (at_place.left i d k (omega (arith, within)))),
   )
 
   -- a time that isn't after the last turn isn't the instant
   other : (t : ℕ) → is_after last t ≡ false → (t == time) ≡ false
-  other t e = false_from_ne_true (t == time)
-      (λ s. true≢false (sym next'.after ∙ ap (is_after last) (sym (eqb-true t time s)) ∙ e))
+  other t not_after = false_from_ne_true (t == time)
+      (λ s. true≢false (sym next'.after ∙ ap (is_after last) (sym (eqb-true t time s)) ∙ not_after))
 
   -- a time after the instant isn't the instant
   later : (t : ℕ) → time < t → (t == time) ≡ false
-  later t l = false_from_ne_true (t == time) (λ s. absurd (omega (arith, l, eqb-true t time s)))
+  later t below = false_from_ne_true (t == time) (λ s. absurd (omega (arith, below, eqb-true t time s)))
 
   -- the entries of the instant are just those from the place to the end, the run
   run : filter (λ (p : Planned). p.time == time) plan ≡ take (end - place) (drop place plan)
@@ -281,17 +284,18 @@ module _ (table : OwnTable) (heard : List Range) (running : List (Option Running
   pub early_turn : (known : List Range) (acts : List Act) →
       acts ≡ map act_of (filter (takes (table.sends ++ table.starts) known) (take (end - place) (drop place qs))) →
       All (λ (p : Planned). p.time < 2 ^ 60) plan → 0 < length acts → time < 2 ^ 60
-  early_turn known acts e early some = elim (cases_lt place end) [
-    | inl l ↦ let d : Planned = record { time = 0; row = 0; item = 0; column = 0 } in
-        omega (arith, at_time place d (omega arith) l, early place d (omega (arith, within)))
-    | inr l ↦ absurd (omega (arith, some, ap length e ∙ none (end - place) (omega arith)))
+  early_turn known acts acts_are early some = elim (cases_lt place end) [
+    | inl some_left ↦ let no_entry : Planned = record { time = 0; row = 0; item = 0; column = 0 } in
+        omega (arith, at_time place no_entry (omega arith) some_left, early place no_entry (omega (arith, within)))
+    | inr none_left ↦ absurd (omega (arith, some, ap length acts_are ∙ none (end - place) (omega arith)))
   ]
     where
       -- an empty run has no entries, so it gives no acts
       none : (n : ℕ) → n ≡ 0 →
           length (map act_of (filter (takes (table.sends ++ table.starts) known) (take n (drop place qs)))) ≡ 0
-      none n z =
-          ap (λ n. length (map act_of (filter (takes (table.sends ++ table.starts) known) (take n (drop place qs))))) z
+      none n same =
+          ap (λ n. length (map act_of (filter (takes (table.sends ++ table.starts) known) (take n (drop place qs)))))
+          same
 
 -- ---- the clauses of a turn, about the state as a caller sees it
 
@@ -321,35 +325,35 @@ returned_acts state d acts time made ended frames view comes is =
 -- each possible end is below 2^61: a start and a duration, both below 2^60; by induction on the own processes
 ends_early : (os : List Own) (runs : List (Option Running)) → All AreShort os → AreTimed runs → (t : ℕ) →
     Contains (flat_map (λ ends. ends) (zip_with possible_ends os runs)) t → t < 2 ^ 61
-ends_early [] runs s h t c = absurd (Contains-nil t c)
-ends_early (o ∷ os) [] s h t c = absurd (Contains-nil t c)
-ends_early (o ∷ os) (r ∷ rs) s h t c =
-    elim (Contains-append_cases (possible_ends o r) (flat_map (λ ends. ends) (zip_with possible_ends os rs)) t c) [
-      | inl k ↦ one r (All-head IsTimed r rs h) k
-      | inr k ↦ ends_early os rs (All-tail AreShort o os s) (All-tail IsTimed r rs h) t k
+ends_early [] runs short timed t among = absurd (Contains-nil t among)
+ends_early (o ∷ os) [] short timed t among = absurd (Contains-nil t among)
+ends_early (o ∷ os) (r ∷ rs) short timed t among =
+    elim (Contains-append_cases (possible_ends o r) (flat_map (λ ends. ends) (zip_with possible_ends os rs)) t among) [
+      | inl there ↦ one r (All-head IsTimed r rs timed) there
+      | inr there ↦ ends_early os rs (All-tail AreShort o os short) (All-tail IsTimed r rs timed) t there
     ]
   where
     -- the ends of one execution: a start and a duration, both below 2^60
     one : (run : Option Running) → IsTimed run → Contains (possible_ends o run) t → t < 2 ^ 61
-    one None h k = absurd (Contains-nil t k)
-    one (Some x) h k =
-        let q = Contains-map_parts (λ d. x.start + d) o.times t k in
-        let d = All-contains (λ d. d < 2 ^ 60) o.times q.0 (All-head AreShort o os s) q.1 in
-        omega (arith, h, d, q.2)
+    one None timed there = absurd (Contains-nil t there)
+    one (Some x) timed there =
+        let found = Contains-map_parts (λ d. x.start + d) o.times t there in
+        let small = All-contains (λ d. d < 2 ^ 60) o.times found.0 (All-head AreShort o os short) found.1 in
+        omega (arith, timed, small, found.2)
 
 -- the next instant is below 2^61: it is 0, a time of the table or a possible end
 pub next_early : (table : OwnTable) (heard : List Range) (running : List (Option Running)) (last : Option ℕ) (t : ℕ) →
     IsTable table →
     AreTimed running →
     next (record { table = table; heard = heard; running = running; last = last }) ≡ Some t → t < 2 ^ 61
-next_early table heard running last t made h e =
+next_early table heard running last t made timed comes =
     elim (first last (Contains-filter_parts (is_after last) (cond (is_some last) all (0 ∷ all)) t
-    (least_of_parts (filter (is_after last) (cond (is_some last) all (0 ∷ all))) t e).0).0) [
-      | inl z ↦ omega (arith, z)
-      | inr c ↦ elim (Contains-append_cases (fixed_times table)
-          (flat_map (λ ends. ends) (zip_with possible_ends table.own running)) t c) [
-            | inl k ↦ let f = fixed_early table made t k in omega (arith, f)
-            | inr k ↦ ends_early table.own running (times_short table made) h t k
+    (least_of_parts (filter (is_after last) (cond (is_some last) all (0 ∷ all))) t comes).0).0) [
+      | inl is_zero ↦ omega (arith, is_zero)
+      | inr candidate ↦ elim (Contains-append_cases (fixed_times table)
+          (flat_map (λ ends. ends) (zip_with possible_ends table.own running)) t candidate) [
+            | inl there ↦ let fixed = fixed_early table made t there in omega (arith, fixed)
+            | inr there ↦ ends_early table.own running (times_short table made) timed t there
           ]
     ]
   where
@@ -359,5 +363,6 @@ next_early table heard running last t made h e =
 
     -- the first candidate is 0 before any turn, or one of the others
     first : (o : Option ℕ) → Contains (cond (is_some o) all (0 ∷ all)) t → (t ≡ 0) ⊎ Contains all t
-    first None c = elim (Contains-cases 0 all t c) [ inl z ↦ inl (sym z) | inr k ↦ inr k ]
-    first (Some l) c = inr c
+    first None candidate =
+        elim (Contains-cases 0 all t candidate) [ inl is_zero ↦ inl (sym is_zero) | inr there ↦ inr there ]
+    first (Some l) candidate = inr candidate

@@ -21,7 +21,7 @@ pub record IsSound (n : Inside) : Type 0 where
   pub made : IsTable n.table
   -- an execution, or none, for each of its own processes
   pub count : length n.running.items ≡ length n.table.own
-  -- room for a copy of what has been heard
+  -- `saved` has as many ranges as `heard`, so what has been heard can be copied into it
   pub mirror : length n.heard.items ≡ length n.saved.items
   -- each execution started before 2^60, so its start and a duration fit 64 bits
   pub starts : AreTimed n.running.items

@@ -199,7 +199,7 @@ pub fn arrives(table: &NodeTable, arrival: u64, frame: &Frame) -> bool
 }
 
 /// Hears a frame and returns true, unless it contradicts what has been heard: then nothing changes, and it returns false.
-/// `saved` is memory for a copy of what has been heard.
+/// `saved` has as many ranges as `heard`; what has been heard is copied into them, and what they were is lost.
 pub fn hears(table: &NodeTable, heard: &mut [Range], saved: &mut [Range], frame: &Frame) -> bool
     requires { length heard.old ≡ length saved.old }
     ensures fits { result ≡ not (list_any is_contradicted (hear_frame table.now heard.old frame.now)) }

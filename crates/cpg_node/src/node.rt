@@ -40,7 +40,8 @@ pub struct Node {
     times_place: usize,
     /// Room for the reports that a turn takes.
     due: Vec<Ended>,
-    /// Room for a copy of what has been heard, from which a strange frame is taken back.
+    /// As many ranges as `heard` has. `hear` copies `heard` into them, so that a frame that contradicts it can be taken
+    /// back.
     saved: Vec<Range>,
 }
 

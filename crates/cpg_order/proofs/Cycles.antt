@@ -27,15 +27,15 @@ use Rattle.cpg_order.proofs.Along.{is_in_from}
 
 -- each edge of the graph leads from its source to its target
 pub has_edge_from : (g : Graph) (e : ℕ) → e < edge_count g → has_edge g (source g e) (target g e) ≡ true
-has_edge_from g e h = list_any_true (λ f. (f.from == source g e) && (f.to == target g e)) g.edges (edge_at g e)
-    (Contains-get_or g.edges e _ h)
+has_edge_from g e inside = list_any_true (λ f. (f.from == source g e) && (f.to == target g e)) g.edges (edge_at g e)
+    (Contains-get_or g.edges e _ inside)
     (and_from (source g e == source g e) (target g e == target g e) (eq-eqb (source g e) (source g e) refl)
     (eq-eqb (target g e) (target g e) refl))
 
 -- if e is an input of p, an edge leads from the source of e to p
 pub has_edge_of_input : (g : Graph) (p e : ℕ) → Contains (inputs g p) e → has_edge g (source g e) p ≡ true
-has_edge_of_input g p e c = let r = inputs_parts g p e c in
-    subst (λ q. has_edge g (source g e) q ≡ true) r.1 (has_edge_from g e r.0)
+has_edge_of_input g p e is_input = let parts = inputs_parts g p e is_input in
+    subst (λ q. has_edge g (source g e) q ≡ true) parts.1 (has_edge_from g e parts.0)
 
 -- ---- a topological order leaves no cycle
 
@@ -43,24 +43,24 @@ has_edge_of_input g p e c = let r = inputs_parts g p e c in
 module _ (g : Graph) (order : List ℕ) (topological : IsTopological g order) where
   -- an edge from p to q is in the list of edges, so p comes before q in a topological order
   has_edge_goes_up : (p q : ℕ) → has_edge g p q ≡ true → place order p < place order q
-  has_edge_goes_up p q t =
-      let r = list_any_parts (λ f. (f.from == p) && (f.to == q)) g.edges t in
-      let s = and_parts (r.0.from == p) (r.0.to == q) r.2 in
-      let e = r.1.0 in
-      let same : edge_at g e ≡ r.0 = get_or_default g.edges e _ r.0 r.1.1 ∙ r.1.2 in
-      let from : source g e ≡ p = ap (λ f. f.from) same ∙ eqb-true r.0.from p s.0 in
-      let to : target g e ≡ q = ap (λ f. f.to) same ∙ eqb-true r.0.to q s.1 in
+  has_edge_goes_up p q found =
+      let edge = list_any_parts (λ f. (f.from == p) && (f.to == q)) g.edges found in
+      let ends = and_parts (edge.0.from == p) (edge.0.to == q) edge.2 in
+      let number = edge.1.0 in
+      let same : edge_at g number ≡ edge.0 = get_or_default g.edges number _ edge.0 edge.1.1 ∙ edge.1.2 in
+      let from : source g number ≡ p = ap (λ f. f.from) same ∙ eqb-true edge.0.from p ends.0 in
+      let to : target g number ≡ q = ap (λ f. f.to) same ∙ eqb-true edge.0.to q ends.1 in
       subst (λ x. place order x < place order q) from
-      (subst (λ x. place order (source g e) < place order x) to (edge_goes_up g order topological e r.1.1))
+      (subst (λ x. place order (source g number) < place order x) to (edge_goes_up g order topological number edge.1.1))
 
   -- along a cycle no place is below that of its first process
   places_grow : (walk : List ℕ) → IsCycle g walk → (k : ℕ) → k < length walk →
       place order (get_or walk 0 0) ≤ place order (get_or walk k 0)
-  places_grow walk is zero l = omega arith
-  places_grow walk is (suc k) l =
+  places_grow walk is zero inside = omega arith
+  places_grow walk is (suc k) inside =
       let up = has_edge_goes_up (get_or walk k 0) (get_or walk (k + 1) 0) (is.next k (omega arith)) in
       let at : get_or walk (k + 1) 0 ≡ get_or walk (suc k) 0 =
-      ap (λ i. get_or walk i 0) (let e : k + 1 ≡ suc k = omega arith in e) in
+      ap (λ i. get_or walk i 0) (let same : k + 1 ≡ suc k = omega arith in same) in
       omega (arith, places_grow walk is k (omega arith), ap (place order) at)
 
   -- a graph with a topological order has no cycle
@@ -89,16 +89,16 @@ module _ (g : Graph) where
   pub walk_none : (process : ℕ) → IsWalkBack g [] process
   walk_none process = record {
     apart = AllPairs-nil (λ p q. p ≢ q);
-    below = λ p c. absurd (Contains-nil p c);
-    next = λ k l. absurd (omega arith);
-    last = λ l. absurd (omega arith);
+    below = λ p nothing. absurd (Contains-nil p nothing);
+    next = λ k inside. absurd (omega arith);
+    last = λ inside. absurd (omega arith);
   }
 
   -- given: a walk back, and the process that comes next
   module _ (walk : List ℕ) (process : ℕ) (is : IsWalkBack g walk process) where
     -- the walk keeps its processes when one is added
     grown : (k : ℕ) → k < length walk → get_or (walk ++ process ∷ []) k 0 ≡ get_or walk k 0
-    grown k l = get_or_append_left walk (process ∷ []) 0 k l
+    grown k inside = get_or_append_left walk (process ∷ []) 0 k inside
 
     -- the walk with one process more is one longer
     longer : length (walk ++ process ∷ []) ≡ length walk + 1
@@ -112,13 +112,13 @@ module _ (g : Graph) where
     -- k is a place before the last one, as in the walk before, or the last, where the new process has the edge.
     next_more : (k : ℕ) → k + 1 < length walk + 1 →
         has_edge g (get_or (walk ++ process ∷ []) (k + 1) 0) (get_or (walk ++ process ∷ []) k 0) ≡ true
-    next_more k l = elim (cases_lt (k + 1) (length walk)) [
-      | inl m ↦ ap₂ (has_edge g) (grown (k + 1) m) (grown k (omega arith)) ∙ is.next k m
-      | inr m ↦
-          let e : k + 1 ≡ length walk = omega arith in
-          let f : k ≡ length walk - 1 = omega arith in
-          ap₂ (has_edge g) (ap (λ i. get_or (walk ++ process ∷ []) i 0) e ∙ end_is)
-          (grown k (omega arith) ∙ ap (λ i. get_or walk i 0) f) ∙ is.last (omega arith)
+    next_more k inside = elim (cases_lt (k + 1) (length walk)) [
+      | inl before_last ↦ ap₂ (has_edge g) (grown (k + 1) before_last) (grown k (omega arith)) ∙ is.next k before_last
+      | inr at_last ↦
+          let next_last : k + 1 ≡ length walk = omega arith in
+          let is_last : k ≡ length walk - 1 = omega arith in
+          ap₂ (has_edge g) (ap (λ i. get_or (walk ++ process ∷ []) i 0) next_last ∙ end_is)
+          (grown k (omega arith) ∙ ap (λ i. get_or walk i 0) is_last) ∙ is.last (omega arith)
     ]
 
     -- A process that is not in the walk back is added to it, and a process with an edge to it comes next.
@@ -126,45 +126,47 @@ module _ (g : Graph) where
     pub walk_more : (next : ℕ) → process < process_count g → is_in walk process ≡ false →
         has_edge g next process ≡ true →
         IsWalkBack g (walk ++ process ∷ []) next
-    walk_more next l fresh edge = record {
+    walk_more next inside fresh edge = record {
       apart = AllPairs-append (λ p q. p ≢ q) walk (process ∷ []) is.apart
-          (AllPairs-cons_by (λ p q. p ≢ q) process [] (λ y c. absurd (Contains-nil y c)) (AllPairs-nil (λ p q. p ≢ q)))
-          (λ p q c d e. elim (Contains-cases process [] q d) [
-            | inl s ↦
-                both_ways (is_in walk process) fresh (is_in_from walk process (subst (Contains walk) (e ∙ sym s) c))
-            | inr n ↦ Contains-nil q n
+          (AllPairs-cons_by (λ p q. p ≢ q) process []
+          (λ y nothing. absurd (Contains-nil y nothing)) (AllPairs-nil (λ p q. p ≢ q)))
+          (λ p q in_walk in_last equal. elim (Contains-cases process [] q in_last) [
+            | inl is_process ↦
+                both_ways (is_in walk process) fresh
+                (is_in_from walk process (subst (Contains walk) (equal ∙ sym is_process) in_walk))
+            | inr nothing ↦ Contains-nil q nothing
           ]);
-      below = λ p c. elim (Contains-append_cases walk (process ∷ []) p c) [
-        | inl d ↦ is.below p d
-        | inr d ↦ elim (Contains-cases process [] p d) [
-          | inl e ↦ subst (λ q. q < process_count g) e l
-          | inr n ↦ absurd (Contains-nil p n)
+      below = λ p listed. elim (Contains-append_cases walk (process ∷ []) p listed) [
+        | inl in_walk ↦ is.below p in_walk
+        | inr in_last ↦ elim (Contains-cases process [] p in_last) [
+          | inl is_process ↦ subst (λ q. q < process_count g) is_process inside
+          | inr nothing ↦ absurd (Contains-nil p nothing)
         ]
       ];
-      next = λ k m. next_more k (subst (λ n. k + 1 < n) longer m);
-      last = λ m. subst (λ n. has_edge g next (get_or (walk ++ process ∷ []) (n - 1) 0) ≡ true) (sym longer)
-          (let e : length walk + 1 - 1 ≡ length walk = omega arith in
-          ap (λ i. has_edge g next (get_or (walk ++ process ∷ []) i 0)) e ∙ ap (has_edge g next) end_is ∙ edge);
+      next = λ k within. next_more k (subst (λ n. k + 1 < n) longer within);
+      last = λ within. subst (λ n. has_edge g next (get_or (walk ++ process ∷ []) (n - 1) 0) ≡ true) (sym longer)
+          (let same : length walk + 1 - 1 ≡ length walk = omega arith in
+          ap (λ i. has_edge g next (get_or (walk ++ process ∷ []) i 0)) same ∙ ap (has_edge g next) end_is ∙ edge);
     }
 
     -- If the walk back meets itself, the walk from that place on is a cycle.
     -- Each field is that of the walk, `from` places further on; the last process has an edge from the one at `from`.
     pub walk_meets : (from : ℕ) → from < length walk → get_or walk from 0 ≡ process → IsCycleBack g (drop from walk)
-    walk_meets from l at =
+    walk_meets from inside at =
         let long = length-drop from walk in
         record {
           some = omega arith;
-          apart = λ i j d m n e. is.apart (from + i) (from + j) d (omega arith) (omega arith)
-              (sym (get_or-drop from walk i d) ∙ e ∙ get_or-drop from walk j d);
-          next = λ k m.
+          apart = λ i j d i_before_j j_inside equal. is.apart (from + i) (from + j) d (omega arith) (omega arith)
+              (sym (get_or-drop from walk i d) ∙ equal ∙ get_or-drop from walk j d);
+          next = λ k within.
               ap₂ (has_edge g) (get_or-drop from walk (k + 1) 0 ∙ ap (λ i. get_or walk i 0)
-              (let e : from + (k + 1) ≡ from + k + 1 = omega arith in e)) (get_or-drop from walk k 0) ∙
+              (let same : from + (k + 1) ≡ from + k + 1 = omega arith in same)) (get_or-drop from walk k 0) ∙
               is.next (from + k) (omega arith);
           last =
               ap₂ (has_edge g) (get_or-drop from walk 0 0
-              ∙ ap (λ i. get_or walk i 0) (let e : from + 0 ≡ from = omega arith in e) ∙ at)
+              ∙ ap (λ i. get_or walk i 0) (let same : from + 0 ≡ from = omega arith in same) ∙ at)
               (get_or-drop from walk (length (drop from walk) - 1) 0 ∙ ap (λ i. get_or walk i 0)
-              (let e : from + (length (drop from walk) - 1) ≡ length walk - 1 = omega arith in e))
+              (let same : from + (length (drop from walk) - 1) ≡ length walk - 1 = omega arith in same))
               ∙ is.last (omega arith);
         }
 
@@ -176,25 +178,28 @@ place_down m n k = if nat_le k m then m - k else m + n - k
 
 -- going down a circle from m by k steps: no further than its start
 down_before : (m n k : ℕ) → k ≤ m → place_down m n k ≡ m - k
-down_before m n k l = ap (λ b. if b then m - k else m + n - k) (le-leb k m l)
+down_before m n k not_past = ap (λ b. if b then m - k else m + n - k) (le-leb k m not_past)
 
 -- going down a circle from m by more than m steps: on from its end
 down_after : (m n k : ℕ) → m < k → place_down m n k ≡ m + n - k
-down_after m n k l = ap (λ b. if b then m - k else m + n - k) (lt-leb k m l)
+down_after m n k past = ap (λ b. if b then m - k else m + n - k) (lt-leb k m past)
 
 -- going down and around stays among the n places
 pub down_within : (m n k : ℕ) → m < n → k < n → place_down m n k < n
-down_within m n k h l =
-    elim (cases_lt m k) [ inl a ↦ omega (arith, down_after m n k a) | inr b ↦ omega (arith, down_before m n k b) ]
+down_within m n k m_inside k_inside =
+    elim (cases_lt m k) [
+      | inl past ↦ omega (arith, down_after m n k past)
+      | inr not_past ↦ omega (arith, down_before m n k not_past)
+    ]
 
 -- Going down and around takes no place twice in n steps.
 -- By whether the steps i and j are before the turn around or after it.
 pub down_apart : (m n i j : ℕ) → m < n → i < j → j < n → place_down m n i ≢ place_down m n j
-down_apart m n i j h a b e = elim (cases_lt m i) [
-  | inl c ↦ omega (arith, down_after m n i c, down_after m n j (omega arith))
-  | inr c ↦ elim (cases_lt m j) [
-    | inl d ↦ omega (arith, down_before m n i c, down_after m n j d)
-    | inr d ↦ omega (arith, down_before m n i c, down_before m n j d)
+down_apart m n i j m_inside i_before_j j_inside equal = elim (cases_lt m i) [
+  | inl i_past ↦ omega (arith, down_after m n i i_past, down_after m n j (omega arith))
+  | inr i_not_past ↦ elim (cases_lt m j) [
+    | inl j_past ↦ omega (arith, down_before m n i i_not_past, down_after m n j j_past)
+    | inr j_not_past ↦ omega (arith, down_before m n i i_not_past, down_before m n j j_not_past)
   ]
 ]
 
@@ -203,14 +208,22 @@ down_apart m n i j h a b e = elim (cases_lt m i) [
 pub down_next : (m n k : ℕ) → m < n → k < n →
     ((place_down m n k ≡ 0) × (place_down m n (k + 1) ≡ n - 1)) ⊎
     ((0 < place_down m n k) × (place_down m n (k + 1) + 1 ≡ place_down m n k))
-down_next m n k h l = elim (cases_order k m) [
-  | inl e ↦ inl (omega (arith, down_before m n k (omega arith)), omega (arith, down_after m n (k + 1) (omega arith)))
-  | inr (inl a) ↦ inr (
+down_next m n k m_inside k_inside = elim (cases_order k m) [
+  | inl just_before ↦ inl (
+    omega (arith, down_before m n k (omega arith)),
+    omega
+        (arith, down_after m n (k + 1) (omega arith)),
+  )
+  | inr (inl not_past) ↦ inr (
     omega (arith, down_before m n k (omega arith)),
     omega (arith, down_before m n k (omega arith), down_before m n (k + 1) (omega arith)),
   )
-  | inr (inr b) ↦
-      inr (omega (arith, down_after m n k b), omega (arith, down_after m n k b, down_after m n (k + 1) (omega arith)))
+  | inr (inr past) ↦
+      inr (
+        omega (arith, down_after m n k past),
+        omega
+            (arith, down_after m n k past, down_after m n (k + 1) (omega arith)),
+      )
 ]
 
 -- going down begins at the place m
@@ -219,7 +232,7 @@ down_first m n = omega (arith, down_before m n 0 (omega arith))
 
 -- going down n steps comes back to the place m
 pub down_around : (m n : ℕ) → m < n → place_down m n n ≡ m
-down_around m n h = omega (arith, down_after m n n h)
+down_around m n m_inside = omega (arith, down_after m n n m_inside)
 
 -- given a cycle against the edges, and a place in it
 module _ (g : Graph) (back : List ℕ) (is : IsCycleBack g back) (m : ℕ) (inside : m < length back) where
@@ -227,23 +240,26 @@ module _ (g : Graph) (back : List ℕ) (is : IsCycleBack g back) (m : ℕ) (insi
   edge_down : (k : ℕ) → k < length back →
       has_edge g (get_or back (place_down m (length back) k) 0) (get_or back (place_down m (length back) (k + 1)) 0)
       ≡ true
-  edge_down k l = elim (down_next m (length back) k inside l) [
-    | inl (a, b) ↦ ap₂ (has_edge g) (ap (λ i. get_or back i 0) a) (ap (λ i. get_or back i 0) b) ∙ is.last
-    | inr (a, b) ↦ ap (λ i. has_edge g (get_or back i 0) (get_or back (place_down m (length back) (k + 1)) 0)) (sym b)
-        ∙ is.next (place_down m (length back) (k + 1)) (omega (arith, down_within m (length back) k inside l))
+  edge_down k within = elim (down_next m (length back) k inside within) [
+    | inl (is_first, next_last) ↦ ap₂ (has_edge g) (ap (λ i. get_or back i 0) is_first)
+        (ap (λ i. get_or back i 0) next_last) ∙ is.last
+    | inr (not_first, next_down) ↦ ap
+        (λ i. has_edge g (get_or back i 0) (get_or back (place_down m (length back) (k + 1)) 0)) (sym next_down)
+        ∙ is.next (place_down m (length back) (k + 1)) (omega (arith, down_within m (length back) k inside within))
   ]
 
   -- Going down and around meets no process twice.
   -- The two places differ, so one is before the other, and a cycle has different processes at them.
   down_elements_apart : (i j : ℕ) → i < j → j < length back →
       get_or back (place_down m (length back) i) 0 ≢ get_or back (place_down m (length back) j) 0
-  down_elements_apart i j a b e =
-      let p = down_within m (length back) i inside (omega arith) in
-      let q = down_within m (length back) j inside b in
+  down_elements_apart i j i_before_j j_within equal =
+      let i_place = down_within m (length back) i inside (omega arith) in
+      let j_place = down_within m (length back) j inside j_within in
       elim (cases_order (place_down m (length back) i) (place_down m (length back) j)) [
-        | inl s ↦ down_apart m (length back) i j inside a b s
-        | inr (inl l) ↦ is.apart (place_down m (length back) i) (place_down m (length back) j) 0 l q e
-        | inr (inr l) ↦ is.apart (place_down m (length back) j) (place_down m (length back) i) 0 l p (sym e)
+        | inl same_place ↦ down_apart m (length back) i j inside i_before_j j_within same_place
+        | inr (inl lower) ↦ is.apart (place_down m (length back) i) (place_down m (length back) j) 0 lower j_place equal
+        | inr (inr lower) ↦ is.apart (place_down m (length back) j) (place_down m (length back) i) 0 lower i_place
+            (sym equal)
       ]
 
   -- A cycle against the edges, read backwards from its least process on, is a cycle of the graph.
@@ -255,17 +271,19 @@ module _ (g : Graph) (back : List ℕ) (is : IsCycleBack g back) (m : ℕ) (insi
       let down : ℕ → ℕ = λ k. get_or back (place_down m (length back) k) 0 in
       let long : length walk ≡ length back = ap length same ∙ length-map-range_with_len down 0 (length back) in
       let at : (k d : ℕ) → k < length back → get_or walk k d ≡ down k =
-      λ k d l. ap (λ w. get_or w k d) same ∙ get_or-map-below down (length back) k d l in
+      λ k d within. ap (λ w. get_or w k d) same ∙ get_or-map-below down (length back) k d within in
       let first : get_or walk 0 0 ≡ get_or back m 0 =
       at 0 0 is.some ∙ ap (λ i. get_or back i 0) (down_first m (length back)) in
       let end : length back - 1 + 1 ≡ length back = (let some = is.some in omega arith) in
       record {
         some = subst (λ n. 0 < n) (sym long) is.some;
-        apart = λ i j d l n e.
-            down_elements_apart i j l (omega arith) (sym (at i d (omega arith)) ∙ e ∙ at j d (omega arith));
-        least = λ k l. subst₂ (λ x y. x ≤ y) (sym first) (sym (at k 0 (omega arith)))
+        apart = λ i j d i_before_j j_within equal.
+            down_elements_apart i j i_before_j (omega arith)
+            (sym (at i d (omega arith)) ∙ equal ∙ at j d (omega arith));
+        least = λ k within. subst₂ (λ x y. x ≤ y) (sym first) (sym (at k 0 (omega arith)))
             (lowest (place_down m (length back) k) (down_within m (length back) k inside (omega arith)));
-        next = λ k l. ap₂ (has_edge g) (at k 0 (omega arith)) (at (k + 1) 0 (omega arith)) ∙ edge_down k (omega arith);
+        next = λ k within. ap₂ (has_edge g) (at k 0 (omega arith)) (at (k + 1) 0 (omega arith))
+            ∙ edge_down k (omega arith);
         back =
             ap₂ (has_edge g) (ap (λ n. get_or walk (n - 1) 0) long ∙ at (length back - 1) 0 (omega (arith, is.some)))
             (first ∙ ap (λ i. get_or back i 0)

@@ -50,11 +50,12 @@ module _ (g : Graph) (within : IsWithinLimits g) (order : List ℕ) (topological
       AreFound g order tails 0
   none_found tails long zeros = record {
     long = long;
-    found = λ p l m. absurd (let k = place-lt order p (Contains-order (process_count g) order topological.all p l) in
+    found = λ p inside past. absurd
+        (let place_inside = place-lt order p (Contains-order (process_count g) order topological.all p inside) in
         omega (arith, order_long));
     low = λ p. elim (cases_lt p (length tails)) [
-      | inl l ↦ omega (arith, zeros p (omega arith))
-      | inr l ↦ omega (arith, get_or_past tails p 0 l)
+      | inl compared ↦ omega (arith, zeros p (omega arith))
+      | inr compared ↦ omega (arith, get_or_past tails p 0 compared)
     ];
   }
 
@@ -63,24 +64,31 @@ module _ (g : Graph) (within : IsWithinLimits g) (order : List ℕ) (topological
       (at : place order p + done + 1 ≡ process_count g) where
     -- a bound on the longest way over an edge, when some tails are found
     pub longest_from-le : longest_from g tails p ≤ 16000000000 + done * 700000000000
-    longest_from-le = greatest-le _ _ (λ x c.
-        let r = Contains-map_parts (λ e. (if is_message g e then round g else 0) + get_or tails (target g e) 0)
-        (outputs g p) x c in
-        omega (arith, r.2, round_if-le (is_message g r.0) (round g), round-le g within, are.low (target g r.0)))
+    longest_from-le = greatest-le _ _ (λ x listed.
+        let parts = Contains-map_parts (λ e. (if is_message g e then round g else 0) + get_or tails (target g e) 0)
+        (outputs g p) x listed in
+        omega (
+          arith,
+          parts.2,
+          round_if-le (is_message g parts.0) (round g),
+          round-le g within,
+          are.low
+              (target g parts.0),
+        ))
 
     -- the duration of the next process and the longest way over its outputs are its tail
     pub next_tail : duration g p 0 + longest_from g tails p ≡ tail g p
     next_tail = ap (λ xs. duration g p 0 + greatest xs) (same_map _ _ (outputs g p)
-        (λ e c. ap (λ x. (if is_message g e then round g else 0) + x)
-        (are.found (target g e) (within.edges e _ (outputs_parts g p e c).0).to
-        (omega (arith, output_goes_up g order topological p e c)))))
+        (λ e is_output. ap (λ x. (if is_message g e then round g else 0) + x)
+        (are.found (target g e) (within.edges e _ (outputs_parts g p e is_output).0).to
+        (omega (arith, output_goes_up g order topological p e is_output)))))
         ∙ sym (tail_is g order topological p inside)
 
     -- a process q of the graph with the place of p in the order is p
     at_place_of : (q : ℕ) → q < process_count g → place order q ≡ place order p → q ≡ p
-    at_place_of q l e =
-        sym (get_or-place order q 0 (Contains-order (process_count g) order topological.all q l))
-        ∙ ap (λ k. get_or order k 0) e
+    at_place_of q inside_q equal =
+        sym (get_or-place order q 0 (Contains-order (process_count g) order topological.all q inside_q))
+        ∙ ap (λ k. get_or order k 0) equal
         ∙ get_or-place order p 0 (Contains-order (process_count g) order topological.all p inside)
 
     -- With the tail of the next process p, going backwards through the order, the tails of done + 1 processes are found.
@@ -88,23 +96,29 @@ module _ (g : Graph) (within : IsWithinLimits g) (order : List ℕ) (topological
     pub found_more : AreFound g order (set tails p (duration g p 0 + longest_from g tails p)) (done + 1)
     found_more = record {
       long = length-set tails p _ ∙ are.long;
-      found = λ q l m. elim (cases_eq q p) [
-        | inl e ↦ subst (λ x. get_or (set tails p (duration g p 0 + longest_from g tails p)) x 0 ≡ tail g x) (sym e)
+      found = λ q inside_q is_done. elim (cases_eq q p) [
+        | inl is_p ↦ subst (λ x. get_or (set tails p (duration g p 0 + longest_from g tails p)) x 0 ≡ tail g x)
+            (sym is_p)
             (get_or-set_same tails p (duration g p 0 + longest_from g tails p) 0 (omega (arith, are.long)) ∙ next_tail)
-        | inr n ↦ get_or-set_other tails p q (duration g p 0 + longest_from g tails p) 0 n
-            ∙ are.found q l (elim (cases_eq (place order q) (place order p)) [
-              | inl e ↦ absurd (n (at_place_of q l e))
-              | inr k ↦ omega arith
+        | inr is_other ↦ get_or-set_other tails p q (duration g p 0 + longest_from g tails p) 0 is_other
+            ∙ are.found q inside_q (elim (cases_eq (place order q) (place order p)) [
+              | inl equal ↦ absurd (is_other (at_place_of q inside_q equal))
+              | inr unequal ↦ omega arith
             ])
       ];
       low = λ q. elim (cases_eq q p) [
-        | inl e ↦
+        | inl is_p ↦
             let same : get_or (set tails p (duration g p 0 + longest_from g tails p)) q 0
             ≡ duration g p 0 + longest_from g tails p =
-            ap (λ x. get_or (set tails p (duration g p 0 + longest_from g tails p)) x 0) e
+            ap (λ x. get_or (set tails p (duration g p 0 + longest_from g tails p)) x 0) is_p
             ∙ get_or-set_same tails p (duration g p 0 + longest_from g tails p) 0 (omega (arith, are.long)) in
             omega (arith, longest_from-le, duration-le g p 0 within inside (omega arith))
-        | inr n ↦ omega (arith, get_or-set_other tails p q (duration g p 0 + longest_from g tails p) 0 n, are.low q)
+        | inr is_other ↦ omega (
+          arith,
+          get_or-set_other tails p q
+              (duration g p 0 + longest_from g tails p) 0 is_other,
+          are.low q,
+        )
       ];
     }
 
@@ -113,14 +127,14 @@ module _ (g : Graph) (within : IsWithinLimits g) (order : List ℕ) (topological
       tails ≡ map (tail g) (numbers_below (process_count g))
   all_found tails are = ext_get_or 0 tails (map (tail g) (numbers_below (process_count g)))
       (are.long ∙ sym (length-map-range_with_len (tail g) 0 (process_count g)))
-      (λ p l. let h : p < process_count g = omega (arith, are.long) in
-      are.found p h (omega arith) ∙ sym (get_or-map-below (tail g) (process_count g) p 0 h))
+      (λ p below. let inside : p < process_count g = omega (arith, are.long) in
+      are.found p inside (omega arith) ∙ sym (get_or-map-below (tail g) (process_count g) p 0 inside))
 
 -- the longest way over the outputs, as code finds it
 pub way_is : (g : Graph) (turn p : ℕ) (outs found tails : List ℕ) → turn ≡ round g → found ≡ tails → outs ≡ outputs g p
     → greatest (map (λ e. (if is_message g e then turn else 0) + get_or found (target g e) 0) outs)
     ≡ longest_from g tails p
-way_is g turn p outs found tails a b c =
-    ap (λ n. greatest (map (λ e. (if is_message g e then n else 0) + get_or found (target g e) 0) outs)) a
-    ∙ ap (λ ts. greatest (map (λ e. (if is_message g e then round g else 0) + get_or ts (target g e) 0) outs)) b
-    ∙ ap (λ es. greatest (map (λ e. (if is_message g e then round g else 0) + get_or tails (target g e) 0) es)) c
+way_is g turn p outs found tails turn_is found_is outs_are =
+    ap (λ n. greatest (map (λ e. (if is_message g e then n else 0) + get_or found (target g e) 0) outs)) turn_is
+    ∙ ap (λ ts. greatest (map (λ e. (if is_message g e then round g else 0) + get_or ts (target g e) 0) outs)) found_is
+    ∙ ap (λ es. greatest (map (λ e. (if is_message g e then round g else 0) + get_or tails (target g e) 0) es)) outs_are

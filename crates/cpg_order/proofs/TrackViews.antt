@@ -23,15 +23,15 @@ use Rattle.cpg_order.specs.Track.{is_track, AreTracks}
 module _ (g : Graph) where
   -- a quiet outcome is a track, as only values of active processes are free
   pub track_of_quiet : (reached : List ℕ) (o : List Bool) → is_quiet g reached o ≡ true → is_track g o ≡ true
-  track_of_quiet reached o t =
+  track_of_quiet reached o quiet =
       all_from (λ (c : ℕ). not (get_or o c false) || active g o (process_of g c)) (numbers_below (condition_count g))
-      (λ c d. ⊎_elim
-      (λ (e : not (get_or o c false) ≡ true). or_left (not (get_or o c false)) (active g o (process_of g c)) e)
-      (λ (e : is_value_free g reached o c ≡ true). or_right (not (get_or o c false)) (active g o (process_of g c))
-      (and_parts (is_in reached (value_variable c)) (active g o (process_of g c)) e).1)
+      (λ c within. ⊎_elim
+      (λ (known : not (get_or o c false) ≡ true). or_left (not (get_or o c false)) (active g o (process_of g c)) known)
+      (λ (known : is_value_free g reached o c ≡ true). or_right (not (get_or o c false)) (active g o (process_of g c))
+      (and_parts (is_in reached (value_variable c)) (active g o (process_of g c)) known).1)
       (or_cases (not (get_or o c false)) (is_value_free g reached o c)
       (from_all (λ (c : ℕ). not (get_or o c false) || is_value_free g reached o c)
-      (numbers_below (condition_count g)) c t d)))
+      (numbers_below (condition_count g)) c quiet within)))
 
   -- the views of an outcome if it is quiet
   abbrev if_quiet : List ℕ → List Bool → ℕ
@@ -41,11 +41,12 @@ module _ (g : Graph) where
   -- A quiet outcome is a track; one that isn't quiet has 0 on both sides.
   none_but_tracks : (reached : List ℕ) (o : List Bool) → if_quiet reached o ≡ cond (is_track g o) (if_quiet reached o) 0
   none_but_tracks reached o = ⊎_elim
-      (λ (t : is_quiet g reached o ≡ true). ap (λ b. cond b (if_quiet reached o) 0) (sym (track_of_quiet reached o t)))
-      (λ (t : is_quiet g reached o ≡ false).
-      let e : if_quiet reached o ≡ 0 = ap (λ b. cond b (views_of_outcome g reached o) 0) t in
-      e ∙ sym (stays (is_track g o) 0) ∙
-      ap (λ n. cond (is_track g o) n 0) (sym e))
+      (λ (known : is_quiet g reached o ≡ true). ap
+      (λ b. cond b (if_quiet reached o) 0) (sym (track_of_quiet reached o known)))
+      (λ (known : is_quiet g reached o ≡ false).
+      let is_none : if_quiet reached o ≡ 0 = ap (λ b. cond b (views_of_outcome g reached o) 0) known in
+      is_none ∙ sym (stays (is_track g o) 0) ∙
+      ap (λ n. cond (is_track g o) n 0) (sym is_none))
       (cases_Bool (is_quiet g reached o))
     where
       -- a choice between n and n is n
@@ -73,24 +74,24 @@ module _ (g : Graph) where
   views_of_outcome_small : process_count g ≤ 128 → g.faults ≤ 8 → (reached : List ℕ) (o : List Bool) →
       views_of_outcome g reached o < 2 ^ 42
   views_of_outcome_small few faults reached o = ways_small (free_counts g reached o)
-      (let a = count_by-le-length (is_count_free g reached o) (numbers_below (process_count g)) in
-      let b = length-range_with_len 0 (process_count g) in omega arith)
+      (let not_more = count_by-le-length (is_count_free g reached o) (numbers_below (process_count g)) in
+      let all_counts = length-range_with_len 0 (process_count g) in omega arith)
       g.faults faults
 
-  -- With at most 16,384 tracks a reach has at most 2^56 views.
-  -- 2^14 tracks of at most 2^42 views each.
+  -- With at most 16,384 tracks a reach has at most 2^56 views: 2^14 tracks of at most 2^42 views each.
   pub views_small : process_count g ≤ 128 → g.faults ≤ 8 → (reached : List ℕ) (tracks : List (List Bool)) →
       AreTracks g tracks → length tracks ≤ 16384 →
       views g reached ≤ 2 ^ 56
   views_small few faults reached tracks are short =
-      let e = views_of_tracks reached tracks few are in
-      let a = length-filter (is_quiet g reached) tracks in
-      let b = count_by-le-length (is_quiet g reached) tracks in
-      let s = sum_by-le (views_of_outcome g reached) (2 ^ 42) (filter (is_quiet g reached) tracks)
+      let sum_of_tracks = views_of_tracks reached tracks few are in
+      let quiet_length = length-filter (is_quiet g reached) tracks in
+      let quiet_few = count_by-le-length (is_quiet g reached) tracks in
+      let sum_small = sum_by-le (views_of_outcome g reached) (2 ^ 42) (filter (is_quiet g reached) tracks)
       (All-from_get_or (λ o. views_of_outcome g reached o ≤ 2 ^ 42) (filter (is_quiet g reached) tracks) []
-      (λ i l. let v = views_of_outcome_small few faults reached (get_or (filter (is_quiet g reached) tracks) i []) in
+      (λ k within. let small = views_of_outcome_small few faults reached
+      (get_or (filter (is_quiet g reached) tracks) k []) in
       omega arith)) in
-      let m =
+      let product =
       mul-le (length (filter (is_quiet g reached) tracks)) (2 ^ 42) 16384 (2 ^ 42) (omega arith) (omega arith) in
       omega arith
 
@@ -98,4 +99,5 @@ module _ (g : Graph) where
   pub views_fit : process_count g ≤ 128 → g.faults ≤ 8 → (reached : List ℕ) (tracks : List (List Bool)) →
       AreTracks g tracks → length tracks ≤ 16384 →
       views g reached < 2 ^ 64
-  views_fit few faults reached tracks are short = let v = views_small few faults reached tracks are short in omega arith
+  views_fit few faults reached tracks are short = let small = views_small few faults reached tracks are short in
+      omega arith

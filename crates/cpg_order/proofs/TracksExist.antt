@@ -30,24 +30,27 @@ module _ (g : Graph) where
   agree_chosen : (reached cs : List ℕ) (o q : List Bool) → Contains (chosen g reached cs o) q → (d : ℕ) →
       (Contains cs d → ⊥) →
       get_or o d false ≡ get_or q d false
-  agree_chosen reached [] o q k d n = ⊎_elim (λ (e : o ≡ q). ap (λ r. get_or r d false) e)
-      (λ (c : Contains [] q). absurd (Contains-nil q c)) (Contains-cases o [] q k)
-  agree_chosen reached (c ∷ cs) o q k d n = ⊎_elim
-      (λ (h : Contains (chosen g reached cs o) q). agree_chosen reached cs o q h d (λ i. n (Contains-rest c cs d i)))
-      (λ (h : Contains (cond (is_value_free g reached o c) (chosen g reached cs (set o c true)) []) q).
-      second (is_value_free g reached o c) h
-      (λ i. agree_chosen reached cs (set o c true) q i d (λ j. n (Contains-rest c cs d j))))
+  agree_chosen reached [] o q is_chosen d not_left = ⊎_elim (λ (same : o ≡ q). ap (λ r. get_or r d false) same)
+      (λ (nothing : Contains [] q). absurd (Contains-nil q nothing)) (Contains-cases o [] q is_chosen)
+  agree_chosen reached (c ∷ cs) o q is_chosen d not_left = ⊎_elim
+      (λ (with_false : Contains (chosen g reached cs o) q). agree_chosen reached cs o q with_false d
+      (λ in_rest. not_left (Contains-rest c cs d in_rest)))
+      (λ (with_true : Contains (cond (is_value_free g reached o c) (chosen g reached cs (set o c true)) []) q).
+      second (is_value_free g reached o c) with_true
+      (λ listed. agree_chosen reached cs (set o c true) q listed d
+      (λ in_rest. not_left (Contains-rest c cs d in_rest))))
       (Contains-append_cases (chosen g reached cs o)
-      (cond (is_value_free g reached o c) (chosen g reached cs (set o c true)) []) q k)
+      (cond (is_value_free g reached o c) (chosen g reached cs (set o c true)) []) q is_chosen)
     where
       -- by whether the condition may be true: only then are there outcomes with it
       second : (b : Bool) → Contains (cond b (chosen g reached cs (set o c true)) []) q →
           (Contains (chosen g reached cs (set o c true)) q → get_or (set o c true) d false ≡ get_or q d false) →
           get_or o d false ≡ get_or q d false
-      second true i f =
-          sym (get_or-set_other o c d true false (λ e. n (subst (Contains (c ∷ cs)) (sym e) (Contains-first c cs))))
-          ∙ f i
-      second false i f = absurd (Contains-nil q i)
+      second true listed agree =
+          sym (get_or-set_other o c d true false
+          (λ is_c. not_left (subst (Contains (c ∷ cs)) (sym is_c) (Contains-first c cs))))
+          ∙ agree listed
+      second false listed agree = absurd (Contains-nil q listed)
 
   -- the first outcome comes before the second
   abbrev Before : List Bool → List Bool → Type 0
@@ -55,13 +58,15 @@ module _ (g : Graph) where
 
   -- no outcome is before itself, as c would have to be both false and true in it
   before_itself : (o : List Bool) → Before o o → ⊥
-  before_itself o t =
-      let r = list_any_parts (λ c. not (get_or o c false) && get_or o c false && agree_on (earlier_conditions g c) o o)
-      (numbers_below (condition_count g)) t in
-      let s =
-      and_parts (not (get_or o r.0 false) && get_or o r.0 false) (agree_on (earlier_conditions g r.0) o o) r.2 in
-      let q = and_parts (not (get_or o r.0 false)) (get_or o r.0 false) s.0 in
-      both_ways (get_or o r.0 false) (not-true (get_or o r.0 false) q.0) q.1
+  before_itself o before =
+      let found = list_any_parts (λ c. not (get_or o c false) && get_or o c false
+      && agree_on (earlier_conditions g c) o o)
+      (numbers_below (condition_count g)) before in
+      let parts =
+      and_parts (not (get_or o found.0 false) && get_or o found.0 false)
+      (agree_on (earlier_conditions g found.0) o o) found.2 in
+      let values = and_parts (not (get_or o found.0 false)) (get_or o found.0 false) parts.0 in
+      both_ways (get_or o found.0 false) (not-true (get_or o found.0 false) values.0) values.1
 
   -- given: an urgency order of the graph, and the variables that are reached
   module _ (order : List ℕ) (urgency : IsUrgencyOrder g order) (reached : List ℕ) where
@@ -73,17 +78,17 @@ module _ (g : Graph) where
     -- c is the condition that the test asks for.
     false_first : (c : ℕ) (q r : List Bool) → c < condition_count g → get_or q c false ≡ false →
         get_or r c false ≡ true → ((e : ℕ) → at e < at c → get_or q e false ≡ get_or r e false) → Before q r
-    false_first c q r h x y agree =
+    false_first c q r c_inside q_false r_true agree =
         list_any_true (λ c. not (get_or q c false) && get_or r c false && agree_on (earlier_conditions g c) q r)
         (numbers_below (condition_count g)) c
-        (Contains-numbers (condition_count g) c h)
-        (and_from _ _ (and_from _ _ (not_from_false (get_or q c false) x) y)
-        (agree_from (earlier_conditions g c) q r (λ e k.
-        let i = Contains-filter_parts (λ (d : ℕ). is_more_urgent g (process_of g d) (process_of g c))
-        (numbers_below (condition_count g)) e k in
-        let l = numbers-Contains (condition_count g) e i.0 in
-        agree e (urgent_first g order urgency (process_of g e) (process_of g c) (process_of_below g e l)
-        (process_of_below g c h) i.1))))
+        (Contains-numbers (condition_count g) c c_inside)
+        (and_from _ _ (and_from _ _ (not_from_false (get_or q c false) q_false) r_true)
+        (agree_from (earlier_conditions g c) q r (λ e listed.
+        let parts = Contains-filter_parts (λ (d : ℕ). is_more_urgent g (process_of g d) (process_of g c))
+        (numbers_below (condition_count g)) e listed in
+        let e_inside = numbers-Contains (condition_count g) e parts.0 in
+        agree e (urgent_first g order urgency (process_of g e) (process_of g c) (process_of_below g e e_inside)
+        (process_of_below g c c_inside) parts.1))))
 
     -- the outcomes that are chosen along rising conditions are in order
     chosen_in_order : (cs : List ℕ) (o : List Bool) → length o ≡ condition_count g →
@@ -91,43 +96,49 @@ module _ (g : Graph) where
         ((c : ℕ) → Contains cs c → get_or o c false ≡ false) →
         AllPairs (λ c d. at c < at d) cs → AllPairs Before (chosen g reached cs o)
     chosen_in_order [] o size inside unset rise =
-        AllPairs-cons_by Before o [] (λ q c. absurd (Contains-nil q c)) (AllPairs-nil Before)
+        AllPairs-cons_by Before o [] (λ q nothing. absurd (Contains-nil q nothing)) (AllPairs-nil Before)
     chosen_in_order (c ∷ cs) o size inside unset rise =
-        let h = inside c (Contains-first c cs) in
-        let after = λ (d : ℕ) (k : Contains cs d). AllPairs-first (λ x y. at x < at y) c cs rise d k in
-        let apart = λ (k : Contains cs c). let l = after c k in let z : ⊥ = omega arith in z in
+        let c_inside = inside c (Contains-first c cs) in
+        let after = λ (d : ℕ) (in_rest : Contains cs d). AllPairs-first (λ x y. at x < at y) c cs rise d in_rest in
+        let apart = λ (in_rest : Contains cs c). let itself = after c in_rest in
+        let impossible : ⊥ = omega arith in impossible in
         let earlier =
-        λ (e : ℕ) (l : at e < at c) (k : Contains cs e). let m = after e k in let z : ⊥ = omega arith in z in
+        λ (e : ℕ) (sooner : at e < at c) (in_rest : Contains cs e). let later = after e in_rest in
+        let impossible : ⊥ = omega arith in impossible in
         -- the outcomes with the condition true are in order
         let second =
-        chosen_in_order cs (set o c true) (length-set o c true ∙ size) (λ d k. inside d (Contains-rest c cs d k))
-        (λ d k. get_or-set_other o c d true false (λ e. apart (subst (Contains cs) e k))
-        ∙ unset d (Contains-rest c cs d k)) (AllPairs-rest (λ x y. at x < at y) c cs rise) in
+        chosen_in_order cs (set o c true) (length-set o c true ∙ size)
+        (λ d in_rest. inside d (Contains-rest c cs d in_rest))
+        (λ d in_rest. get_or-set_other o c d true false (λ is_c. apart (subst (Contains cs) is_c in_rest))
+        ∙ unset d (Contains-rest c cs d in_rest)) (AllPairs-rest (λ x y. at x < at y) c cs rise) in
         -- those with it false come first, and are in order
         AllPairs-append Before (chosen g reached cs o)
         (cond (is_value_free g reached o c) (chosen g reached cs (set o c true)) [])
-        (chosen_in_order cs o size (λ d k. inside d (Contains-rest c cs d k)) (λ d k. unset d (Contains-rest c cs d k))
+        (chosen_in_order cs o size (λ d in_rest. inside d (Contains-rest c cs d in_rest))
+        (λ d in_rest. unset d (Contains-rest c cs d in_rest))
         (AllPairs-rest (λ x y. at x < at y) c cs rise))
         (if_free (is_value_free g reached o c) second)
-        (λ q r i j. in_free (is_value_free g reached o c) r j (λ k. false_first c q r h
-        (sym (agree_chosen reached cs o q i c apart) ∙ unset c (Contains-first c cs))
-        (sym (agree_chosen reached cs (set o c true) r k c apart) ∙ get_or-set_same o c true false (omega arith))
-        (λ e l. sym (agree_chosen reached cs o q i e (earlier e l))
-        ∙ sym (get_or-set_other o c e true false (λ m. let x = ap at m in omega arith)) ∙
-        agree_chosen reached cs (set o c true) r k e (earlier e l))))
+        (λ q r with_false in_second. in_free (is_value_free g reached o c) r in_second
+        (λ with_true. false_first c q r c_inside
+        (sym (agree_chosen reached cs o q with_false c apart) ∙ unset c (Contains-first c cs))
+        (sym (agree_chosen reached cs (set o c true) r with_true c apart)
+        ∙ get_or-set_same o c true false (omega arith))
+        (λ e sooner. sym (agree_chosen reached cs o q with_false e (earlier e sooner))
+        ∙ sym (get_or-set_other o c e true false (λ is_c. let equal = ap at is_c in omega arith)) ∙
+        agree_chosen reached cs (set o c true) r with_true e (earlier e sooner))))
       where
         -- by whether the condition may be true: only then are there outcomes with it
         if_free : (b : Bool) → AllPairs Before (chosen g reached cs (set o c true)) →
             AllPairs Before (cond b (chosen g reached cs (set o c true)) [])
-        if_free true p = p
-        if_free false p = AllPairs-nil Before
+        if_free true rising = rising
+        if_free false rising = AllPairs-nil Before
 
         -- an outcome with the value true is listed only if the condition is free
         in_free : {P : Type 0} (b : Bool) (r : List Bool) →
             Contains (cond b (chosen g reached cs (set o c true)) []) r →
             (Contains (chosen g reached cs (set o c true)) r → P) → P
-        in_free true r k f = f k
-        in_free false r k f = absurd (Contains-nil r k)
+        in_free true r listed claim = claim listed
+        in_free false r listed claim = absurd (Contains-nil r listed)
 
   -- ---- the tracks
 
@@ -138,20 +149,22 @@ module _ (g : Graph) where
       AreTracks g (tracks_along g order)
   tracks_are order urgency topological =
       let in_order = chosen_in_order order urgency (all_values g) (conditions_along g order) (all_false g)
-      (length-replicate (condition_count g) false) (λ c k. (from_along g order c k).0)
-      (λ c k. get_or-replicate (condition_count g) c false false (from_along g order c k).0)
+      (length-replicate (condition_count g) false) (λ c listed. (from_along g order c listed).0)
+      (λ c listed. get_or-replicate (condition_count g) c false false (from_along g order c listed).0)
       (conditions_rise g order topological) in
       record {
         all = permutation_of_same (filter (is_track g) (outcomes (condition_count g))) (tracks_along g order)
             (AllPairs-filter (λ a b. a ≢ b) (is_track g) (outcomes (condition_count g))
             (outcomes_apart (condition_count g)))
-            (λ i j d h l e. before_itself (get_or (tracks_along g order) i d)
-            (subst (λ q. Before (get_or (tracks_along g order) i d) q) (sym e) (in_order i j d h l)))
-            (λ o c. let r = Contains-filter_parts (is_track g) (outcomes (condition_count g)) o c in
-            Contains-quiet_outcomes g order topological (all_values g) o (length_of_outcome (condition_count g) o r.0)
-            (quiet_is_track g o ∙ r.1))
-            (λ o c. let r = from_quiet_outcomes g order topological (all_values g) o c in
-            Contains-filter (is_track g) (outcomes (condition_count g)) o (sym (quiet_is_track g o) ∙ r.1)
-            (Contains-outcomes (condition_count g) o r.0));
+            (λ i j d i_before_j j_inside equal. before_itself (get_or (tracks_along g order) i d)
+            (subst (λ q. Before (get_or (tracks_along g order) i d) q) (sym equal)
+            (in_order i j d i_before_j j_inside)))
+            (λ o within. let parts = Contains-filter_parts (is_track g) (outcomes (condition_count g)) o within in
+            Contains-quiet_outcomes g order topological (all_values g) o
+            (length_of_outcome (condition_count g) o parts.0)
+            (quiet_is_track g o ∙ parts.1))
+            (λ o is_chosen. let parts = from_quiet_outcomes g order topological (all_values g) o is_chosen in
+            Contains-filter (is_track g) (outcomes (condition_count g)) o (sym (quiet_is_track g o) ∙ parts.1)
+            (Contains-outcomes (condition_count g) o parts.0));
         in_order = in_order;
       }

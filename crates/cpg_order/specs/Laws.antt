@@ -37,7 +37,8 @@ TailFollowsOutputs = (g : Graph) (order : List ℕ) → IsTopological g order �
     tail g p ≡ duration g p 0
     + greatest (map (λ e. (if is_message g e then round g else 0) + tail g (target g e)) (outputs g p))
 
--- if a condition decides a process in an outcome, the condition's own process is active in that outcome
+-- in a graph whose urgency order is topological, a condition that decides a process in an outcome is of a process that
+-- is active in that outcome
 abbrev pub DecidingIsActive : Type 0
 DecidingIsActive = (g : Graph) (order : List ℕ) → IsUrgencyOrder g order → IsTopological g order →
     (values : List Bool) (p c : ℕ) → c < condition_count g →

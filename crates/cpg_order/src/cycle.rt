@@ -113,7 +113,7 @@ fn least_place(numbers: &[u32]) -> usize
 /// Returns the cycle that `back` lists against its edges, now in their direction and from its least process on.
 fn forwards(alloc: Global, back: &[u32]) -> Result<Vec<u32>, OutOfMemory>
     requires { 0 < length back.now }
-    // if the list is a cycle told backwards, the walk is the cycle
+    // if the list is a cycle of a graph, listed against its edges, the walk is a cycle of that graph
     ensures { IfOk result (λ walk. (g : Graph) → IsCycleBack g back.now → IsCycle g walk.items) }
 {
     let mut walk = Vec::new(alloc);

@@ -27,7 +27,8 @@ pub fn tail_follows_outputs()
     ensures { TailFollowsOutputs }
 {}
 
-/// If a condition decides a process in an outcome, the condition's own process is active in that outcome.
+/// In a graph whose urgency order is topological, a condition that decides a process in an outcome is of a process that
+/// is active in that outcome.
 pub fn deciding_is_active()
     ensures { DecidingIsActive }
 {}

@@ -23,19 +23,22 @@ pub closed_sound : (h : Head) (table : NodeTable) (name : List ℕ) (past now : 
     (old new : SinkState) →
     IsStreamed (Completes h table) name past now start old new →
     (fetch : Fetch) (before : List Fetch) → now ≡ fetch ∷ before → fetch.failed ≡ true → ⊥
-closed_sound h table name past now start old new s fetch before is failed =
+closed_sound h table name past now start old new is_streamed fetch before is failed =
     true≢false (sym failed
-    ∙ (ap (λ (f : Fetch). f.failed) (same_head fetch s.fetch before past (sym is ∙ s.history_is)) ∙ s.is.1.sound))
+    ∙ (ap (λ (f : Fetch). f.failed) (same_head fetch is_streamed.fetch before past (sym is ∙ is_streamed.history_is))
+    ∙ is_streamed.is.1.sound))
 
 -- if a call of a stream's fetch failed, the shelf broke the stream off; if the sink or a record did, no call failed
 pub failed_rose : (P : Type 0) (h : Head) (table : NodeTable) (name : List ℕ) (past now : List Fetch) (start : List ℕ)
     (old new : SinkState) (broken : Broken) →
     IsStreamed (λ s. Breaks h table s broken) name past now start old new →
     (broken ≡ Shelf → P) → (fetch : Fetch) (before : List Fetch) → now ≡ fetch ∷ before → fetch.failed ≡ true → P
-failed_rose P h table name past now start old new Shelf s rose fetch before is failed = rose refl
-failed_rose P h table name past now start old new Sink s rose fetch before is failed =
+failed_rose P h table name past now start old new Shelf is_streamed rose fetch before is failed = rose refl
+failed_rose P h table name past now start old new Sink is_streamed rose fetch before is failed =
     absurd (true≢false (sym failed
-    ∙ (ap (λ (f : Fetch). f.failed) (same_head fetch s.fetch before past (sym is ∙ s.history_is)) ∙ s.is.1.sound)))
-failed_rose P h table name past now start old new (Refused fault) s rose fetch before is failed =
+    ∙ (ap (λ (f : Fetch). f.failed) (same_head fetch is_streamed.fetch before past (sym is ∙ is_streamed.history_is))
+    ∙ is_streamed.is.1.sound)))
+failed_rose P h table name past now start old new (Refused fault) is_streamed rose fetch before is failed =
     absurd (true≢false (sym failed
-    ∙ (ap (λ (f : Fetch). f.failed) (same_head fetch s.fetch before past (sym is ∙ s.history_is)) ∙ s.is.1.sound)))
+    ∙ (ap (λ (f : Fetch). f.failed) (same_head fetch is_streamed.fetch before past (sym is ∙ is_streamed.history_is))
+    ∙ is_streamed.is.1.sound)))

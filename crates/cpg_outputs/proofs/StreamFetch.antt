@@ -11,5 +11,5 @@ pub fetch_of : (Is : Stream → Type 0) (Breaks : Broken → Stream → Type 0) 
     (start : List ℕ) (old new : SinkState) (result : Result Unit Broken) →
     MatchResult result (λ _. IsStreamed Is name past now start old new)
     (λ broken. IsStreamed (Breaks broken) name past now start old new) → (fetch : Fetch) × (now ≡ fetch ∷ past)
-fetch_of Is Breaks name past now start old new (Ok done) s = (s.fetch, s.history_is)
-fetch_of Is Breaks name past now start old new (Err broken) s = (s.fetch, s.history_is)
+fetch_of Is Breaks name past now start old new (Ok done) match_result = (match_result.fetch, match_result.history_is)
+fetch_of Is Breaks name past now start old new (Err broken) match_result = (match_result.fetch, match_result.history_is)

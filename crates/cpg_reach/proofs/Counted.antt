@@ -23,13 +23,14 @@ use Rattle.cpg_order.proofs.Chosen.{views_chosen}
 -- with n too, the count is one more if n passes the test
 pub count_next : (p : ℕ → Bool) (n : ℕ) (b : Bool) → p n ≡ b →
     count_by p (numbers_below (n + 1)) ≡ count_by p (numbers_below n) + cond b 1 0
-count_next p n b e = ap (count_by p) (below_push n) ∙ sum_by-append (λ x. cond (p x) 1 0) (numbers_below n) (n ∷ [])
-    ∙ ap (λ m. count_by p (numbers_below n) + m) (sum_by-cons (λ x. cond (p x) 1 0) n [] ∙ ap (λ c. cond c 1 0 + 0) e
-    ∙ (let z : cond b 1 0 + 0 ≡ cond b 1 0 = omega arith in z))
+count_next p n b is = ap (count_by p) (below_push n) ∙ sum_by-append (λ x. cond (p x) 1 0) (numbers_below n) (n ∷ [])
+    ∙ ap (λ m. count_by p (numbers_below n) + m) (sum_by-cons (λ x. cond (p x) 1 0) n [] ∙ ap (λ c. cond c 1 0 + 0) is
+    ∙ (let plus_none : cond b 1 0 + 0 ≡ cond b 1 0 = omega arith in plus_none))
 
 -- of the numbers below n no more than n pass
 pub count-le : (p : ℕ → Bool) (n : ℕ) → count_by p (numbers_below n) ≤ n
-count-le p n = let a = count_by-le-length p (numbers_below n) in let b = length-range_with_len 0 n in omega arith
+count-le p n = let at_most = count_by-le-length p (numbers_below n) in
+    let length_is = length-range_with_len 0 n in omega arith
 
 -- ---- the conditions along an order
 
@@ -37,7 +38,7 @@ count-le p n = let a = count_by-le-length p (numbers_below n) in let b = length-
 pub along_next : (g : Graph) (order : List ℕ) (i : ℕ) → i < length order →
     conditions_along g (take (i + 1) order) ≡ conditions_along g (take i order) ++ option_to_list
     (condition_of g (get_or order i 0))
-along_next g order i l = ap (conditions_along g) (take_more order i 0 l)
+along_next g order i within = ap (conditions_along g) (take_more order i 0 within)
     ∙ flat_map-append (λ p. option_to_list (condition_of g p)) (take i order) (get_or order i 0 ∷ [])
     ∙ ap (λ xs. conditions_along g (take i order) ++ xs)
     (append-nil (option_to_list (condition_of g (get_or order i 0))))
@@ -48,16 +49,16 @@ pub along_takes : (g : Graph) (order : List ℕ) (i c : ℕ) (xs ys : List ℕ) 
     xs ≡ conditions_along g (take i order) →
     condition_of g (get_or order i 0) ≡ Some c →
     ys ≡ xs ++ c ∷ [] → ys ≡ conditions_along g (take (i + 1) order)
-along_takes g order i c xs ys l h e k = k ∙ ap (λ zs. zs ++ c ∷ []) h
-    ∙ ap (λ o. conditions_along g (take i order) ++ option_to_list o) (sym e) ∙ sym (along_next g order i l)
+along_takes g order i c xs ys within h e k = k ∙ ap (λ zs. zs ++ c ∷ []) h
+    ∙ ap (λ o. conditions_along g (take i order) ++ option_to_list o) (sym e) ∙ sym (along_next g order i within)
 
 -- if the next process has no condition, the list stays
 pub along_skips : (g : Graph) (order : List ℕ) (i : ℕ) (xs : List ℕ) → i < length order →
     xs ≡ conditions_along g (take i order) →
     condition_of g (get_or order i 0) ≡ None →
     xs ≡ conditions_along g (take (i + 1) order)
-along_skips g order i xs l h e = h ∙ sym (append-nil (conditions_along g (take i order)))
-    ∙ ap (λ o. conditions_along g (take i order) ++ option_to_list o) (sym e) ∙ sym (along_next g order i l)
+along_skips g order i xs within h e = h ∙ sym (append-nil (conditions_along g (take i order)))
+    ∙ ap (λ o. conditions_along g (take i order) ++ option_to_list o) (sym e) ∙ sym (along_next g order i within)
 
 -- ---- choosing the conditions
 
@@ -69,7 +70,7 @@ module _ (g : Graph) (reached : List ℕ) where
 
 -- a value that is set and set back leaves the outcome as it was
 pub set_back : (o : List Bool) (c : ℕ) (a b : Bool) → b ≡ get_or o c false → set (set o c a) c b ≡ o
-set_back o c a b e = set-set o c a b ∙ ap (set o c) e ∙ set-get_or o c false
+set_back o c a b is = set-set o c a b ∙ ap (set o c) is ∙ set-get_or o c false
 
 -- a scenario whose value is set and set back is as it was
 pub scenario_back : (s a b d e : Scenario) (c : ℕ) (on was : Bool) → a ≡ s →
@@ -87,8 +88,8 @@ scenario_back s a b d e c on was first set_on stays old last = last
 pub along_within : (g : Graph) (order : List ℕ) (cs : List ℕ) → cs ≡ conditions_along g order →
     All (λ c. c < condition_count g) cs
 along_within g order cs is = subst (All (λ c. c < condition_count g)) (sym is)
-    (λ i d l. (from_along g order (get_or (conditions_along g order) i d)
-    (Contains-get_or (conditions_along g order) i d l)).0)
+    (λ i d within. (from_along g order (get_or (conditions_along g order) i d)
+    (Contains-get_or (conditions_along g order) i d within)).0)
 
 -- choosing all conditions along an order from no value true counts all views
 pub all_views : (g : Graph) (order : List ℕ) → IsTopological g order → process_count g ≤ 128 →
@@ -100,5 +101,5 @@ all_views g order top few reached cs o is none =
 
 -- an option that has no number is `None`
 pub none_if : (o : Option ℕ) → ((x : ℕ) → o ≡ Some x → ⊥) → o ≡ None
-none_if None h = refl
-none_if (Some x) h = absurd (h x refl)
+none_if None never = refl
+none_if (Some x) never = absurd (never x refl)

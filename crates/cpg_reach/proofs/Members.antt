@@ -12,18 +12,19 @@ use Rattle.cpg_reach.specs.Variables.{members, Adds}
 
 -- a number that is marked is within the list
 marked_within : (marks : List Bool) (v : ℕ) → get_or marks v false ≡ true → v < length marks
-marked_within marks v t = ⊎_elim
+marked_within marks v holds = ⊎_elim
     (λ (l : v < length marks). l)
-    (λ (l : length marks ≤ v). absurd (both_ways _ (get_or_past marks v false l) t))
+    (λ (l : length marks ≤ v). absurd (both_ways _ (get_or_past marks v false l) holds))
     (cases_lt v (length marks))
 
 -- a number is among the members exactly if it is marked
 pub is_in_members : (marks : List Bool) (v : ℕ) → is_in (members marks) v ≡ get_or marks v false
 is_in_members marks v = same_truth (is_in (members marks) v) (get_or marks v false)
-    (λ t. (Contains-filter_parts (λ u. get_or marks u false) (numbers_below (length marks)) v
-    (from_is_in (members marks) v t)).1)
-    (λ t. is_in_from (members marks) v (Contains-filter (λ u. get_or marks u false) (numbers_below (length marks)) v t
-    (Contains-numbers (length marks) v (marked_within marks v t))))
+    (λ holds. (Contains-filter_parts (λ u. get_or marks u false) (numbers_below (length marks)) v
+    (from_is_in (members marks) v holds)).1)
+    (λ holds. is_in_from (members marks) v
+    (Contains-filter (λ u. get_or marks u false) (numbers_below (length marks)) v holds
+    (Contains-numbers (length marks) v (marked_within marks v holds))))
 
 -- two false parts add nothing to a disjunction
 or_of_false : (a : Bool) → a ≡ (a || (false || false))
@@ -38,8 +39,8 @@ or_of_true false = refl
 -- setting the mark of v changes no other mark
 set_marks : (marks : List Bool) (v u : ℕ) → v < length marks →
     get_or (set marks v true) u false ≡ (get_or marks u false || ((v == u) || false))
-set_marks marks v u l = elim (eqb_tells v u) [
-  | inl same ↦ ap (λ w. get_or (set marks v true) w false) (sym same.1) ∙ get_or-set_same marks v true false l
+set_marks marks v u within = elim (eqb_tells v u) [
+  | inl same ↦ ap (λ w. get_or (set marks v true) w false) (sym same.1) ∙ get_or-set_same marks v true false within
       ∙ or_of_true (get_or marks u false) ∙ ap (λ b. get_or marks u false || (b || false)) (sym same.0)
   | inr other ↦ get_or-set_other marks v u true false (λ e. other.1 (sym e))
       ∙ or_of_false (get_or marks u false) ∙ ap (λ b. get_or marks u false || (b || false)) (sym other.0)
@@ -48,7 +49,7 @@ set_marks marks v u l = elim (eqb_tells v u) [
 -- setting the mark of v adds v to the set
 pub set_adds : (marks : List Bool) (v : ℕ) → v < length marks →
     Adds (members marks) (v ∷ []) (members (set marks v true))
-set_adds marks v l u = is_in_members (set marks v true) u ∙ set_marks marks v u l
+set_adds marks v within u = is_in_members (set marks v true) u ∙ set_marks marks v u within
     ∙ ap (λ b. b || ((v == u) || false)) (sym (is_in_members marks u))
 
 -- if each mark is set just where one of two lists has it, the others' members are added to the old ones
@@ -73,33 +74,33 @@ united_first old others = record { done = λ u l. absurd (omega arith); left = �
 
 -- what is below the next number is below this one, or is it
 below_next : (v u : ℕ) → u < v + 1 → (u < v) ⊎ (u ≡ v)
-below_next v u l = ⊎_elim (λ (k : u < v). inl k) (λ (k : v ≤ u). inr (omega arith)) (cases_lt u v)
+below_next v u less = ⊎_elim (λ (k : u < v). inl k) (λ (k : v ≤ u). inr (omega arith)) (cases_lt u v)
 
 -- if the mark of v is set where either list has it, the union is made for one variable more
 pub united_next : (old others marks : List Bool) (v : ℕ) (mark : Bool) → v < length marks →
     mark ≡ (get_or marks v false || get_or others v false) →
     United old others marks v → United old others (set marks v mark) (v + 1)
 -- the marks below v stay, the one at v is new, and those above are still the old ones
-united_next old others marks v mark l is h = record {
-  done = λ u k. ⊎_elim
-      (λ (m : u < v). get_or-set_other marks v u mark false (λ e. omega arith) ∙ h.done u m)
-      (λ (e : u ≡ v). ap (λ w. get_or (set marks v mark) w false) e ∙ get_or-set_same marks v mark false l ∙ is
-      ∙ ap (λ b. b || get_or others v false) (h.left v (omega arith))
+united_next old others marks v mark within is nothing = record {
+  done = λ u less. ⊎_elim
+      (λ (m : u < v). get_or-set_other marks v u mark false (λ e. omega arith) ∙ nothing.done u m)
+      (λ (e : u ≡ v). ap (λ w. get_or (set marks v mark) w false) e ∙ get_or-set_same marks v mark false within ∙ is
+      ∙ ap (λ b. b || get_or others v false) (nothing.left v (omega arith))
       ∙ ap (λ w. get_or old w false || get_or others w false) (sym e))
-      (below_next v u k);
-  left = λ u k. get_or-set_other marks v u mark false (λ e. omega arith) ∙ h.left u (omega arith);
+      (below_next v u less);
+  left = λ u k. get_or-set_other marks v u mark false (λ e. omega arith) ∙ nothing.left u (omega arith);
 }
 
 -- a false second part adds nothing
 or_nothing : (a b : Bool) → b ≡ false → (a || b) ≡ a
-or_nothing true b e = refl
-or_nothing false b e = e
+or_nothing true b fails = refl
+or_nothing false b fails = fails
 
 -- past the end of the others the union is made for all variables
 pub united_all : (old others marks : List Bool) (v : ℕ) → length others ≤ v → United old others marks v → (u : ℕ) →
     get_or marks u false ≡ (get_or old u false || get_or others u false)
-united_all old others marks v l h u = ⊎_elim
-    (λ (k : u < v). h.done u k)
-    (λ (k : v ≤ u). h.left u k
+united_all old others marks v at_most nothing u = ⊎_elim
+    (λ (k : u < v). nothing.done u k)
+    (λ (k : v ≤ u). nothing.left u k
     ∙ sym (or_nothing (get_or old u false) (get_or others u false) (get_or_past others u false (omega arith))))
     (cases_lt u v)

@@ -9,7 +9,7 @@ use Rattle.cpg_reach.specs.Wide.{IsNarrow}
 pub none_too_wide : (g : Graph) (order : List ℕ) → IsNarrow g order → (r : Reach) → IsReach g order r → (x : ℕ) →
     x < item_count g →
     is_too_wide g r x ≡ false
-none_too_wide g order narrow r is x l = elim (cases_Bool (is_too_wide g r x)) [
-  | inl wide ↦ absurd (narrow x (record { reach = r; reached = is; within = l; wide = wide }))
+none_too_wide g order narrow r is x inside = elim (cases_Bool (is_too_wide g r x)) [
+  | inl wide ↦ absurd (narrow x (record { reach = r; reached = is; within = inside; wide = wide }))
   | inr fits ↦ fits
 ]

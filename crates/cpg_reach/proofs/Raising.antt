@@ -20,8 +20,9 @@ pub record Raised (k : ℕ) (table : List ℕ) (m : ℕ) : Type 0 where
 pub raised_first : (k : ℕ) (table : List ℕ) → AreWays k table → Raised k table 1
 raised_first k table h = record {
   long = h.long;
-  made = λ n l. let e : n ≡ 0 = omega arith in ap (λ j. get_or table j 0) e ∙ h.each 0 (omega arith) ∙ ways_of_none k
-      ∙ sym (ways_of_none (k + 1)) ∙ ap (λ j. ways j (k + 1)) (sym e);
+  made = λ n l. let zero_is : n ≡ 0 = omega arith in ap (λ j. get_or table j 0) zero_is
+      ∙ h.each 0 (omega arith) ∙ ways_of_none k
+      ∙ sym (ways_of_none (k + 1)) ∙ ap (λ j. ways j (k + 1)) (sym zero_is);
   kept = λ n l u. h.each n u;
 }
 
@@ -29,39 +30,39 @@ raised_first k table h = record {
 next_sum : (k : ℕ) (table : List ℕ) (m : ℕ) → 1 ≤ m → m ≤ 128 → Raised k table m →
     get_or table m 0 + get_or table (m - 1) 0 ≡ ways m (k + 1)
 -- the last of the counts is 0, or it is lowered by one (`ways_more`)
-next_sum k table m s l h =
-    let e : m - 1 + 1 ≡ m = omega arith in
-    ap₂ (λ a b. a + b) (h.kept m (omega arith) l) (h.made (m - 1) (omega arith))
-    ∙ ap (λ j. ways j k + ways (m - 1) (k + 1)) (sym e)
+next_sum k table m s l raised =
+    let back : m - 1 + 1 ≡ m = omega arith in
+    ap₂ (λ a b. a + b) (raised.kept m (omega arith) l) (raised.made (m - 1) (omega arith))
+    ∙ ap (λ j. ways j k + ways (m - 1) (k + 1)) (sym back)
     ∙ sym (ways_more (m - 1) k)
-    ∙ ap (λ j. ways j (k + 1)) e
+    ∙ ap (λ j. ways j (k + 1)) back
 
 -- that sum is below 2 ^ 42, so it fits
 pub sum_fits : (k : ℕ) (table : List ℕ) (m : ℕ) → k < 8 → 1 ≤ m → m ≤ 128 → Raised k table m →
     get_or table m 0 + get_or table (m - 1) 0 < 2 ^ 42
-sum_fits k table m f s l h = let e = next_sum k table m s l h in
-    let b = ways_small m l (k + 1) (omega arith) in
+sum_fits k table m f s l raised = let sum_is = next_sum k table m s l raised in
+    let small = ways_small m l (k + 1) (omega arith) in
     omega arith
 
 -- with that sum in entry m the table is raised below m + 1
 pub raised_next : (k : ℕ) (table : List ℕ) (m : ℕ) → 1 ≤ m → m ≤ 128 → Raised k table m →
     Raised k (set table m (get_or table m 0 + get_or table (m - 1) 0)) (m + 1)
 -- the entries below m stay, the one at m is the new sum (`next_sum`), and those above are still the old ones
-raised_next k table m s l h = record {
-  long = length-set table m _ ∙ h.long;
+raised_next k table m s l raised = record {
+  long = length-set table m _ ∙ raised.long;
   made = λ n u. ⊎_elim
-      (λ (b : n < m). get_or-set_other table m n _ 0 (λ e. omega arith) ∙ h.made n b)
-      (λ (b : m ≤ n). let e : n ≡ m = omega arith in
-      ap (λ j. get_or (set table m (get_or table m 0 + get_or table (m - 1) 0)) j 0) e
-      ∙ get_or-set_same table m _ 0 (let t = h.long in omega arith) ∙ next_sum k table m s l h
-      ∙ ap (λ j. ways j (k + 1)) (sym e))
+      (λ (earlier : n < m). get_or-set_other table m n _ 0 (λ e. omega arith) ∙ raised.made n earlier)
+      (λ (not_earlier : m ≤ n). let same_place : n ≡ m = omega arith in
+      ap (λ j. get_or (set table m (get_or table m 0 + get_or table (m - 1) 0)) j 0) same_place
+      ∙ get_or-set_same table m _ 0 (let table_long = raised.long in omega arith) ∙ next_sum k table m s l raised
+      ∙ ap (λ j. ways j (k + 1)) (sym same_place))
       (cases_lt n m);
-  kept = λ n u b. get_or-set_other table m n _ 0 (λ e. omega arith) ∙ h.kept n (omega arith) b;
+  kept = λ n u b. get_or-set_other table m n _ 0 (λ e. omega arith) ∙ raised.kept n (omega arith) b;
 }
 
 -- raised below 129, the table is that for k + 1
 pub raised_all : (k : ℕ) (table : List ℕ) (m : ℕ) → 129 ≤ m → Raised k table m → AreWays (k + 1) table
-raised_all k table m l h = record { long = h.long; each = λ n u. h.made n (omega arith) }
+raised_all k table m at_least raised = record { long = raised.long; each = λ n u. raised.made n (omega arith) }
 
 -- for k = 0 each entry is 1: all counts are 0
 pub ways_first : AreWays 0 (replicate 129 1)

@@ -15,8 +15,9 @@ use Rattle.cpg_reach.proofs.Adding.{same_after}
 pub frozen_at : (g : Graph) (p : ℕ) (ps : List Process) (q : Process) (b : Bool) → ps ≡ g.processes →
     p < process_count g → (get_or ps p q).frozen ≡ b →
     (process_at g p).frozen ≡ b
-frozen_at g p ps q b is l e =
-    ap (λ (x : Process). x.frozen) (get_or_default g.processes p _ q l) ∙ ap (λ xs. (get_or xs p q).frozen) (sym is) ∙ e
+frozen_at g p ps q b is within e =
+    ap (λ (x : Process). x.frozen) (get_or_default g.processes p _ q within)
+    ∙ ap (λ xs. (get_or xs p q).frozen) (sym is) ∙ e
 
 -- given: reaches, by node what later starts wait for, and a process
 module _ (g : Graph) (r : Reach) (known : List (List ℕ)) (p : ℕ) where
@@ -29,7 +30,7 @@ module _ (g : Graph) (r : Reach) (known : List (List ℕ)) (p : ℕ) where
   pub start_frozen : (xs : List ℕ) → (process_at g p).frozen ≡ true →
       SameElements xs (map value_variable (conditions_of g p)) →
       SameElements xs (start_by g r known p)
-  start_frozen xs e h v = h v ∙ ap (λ b. is_in (by_test b) v) (sym e)
+  start_frozen xs holds same v = same v ∙ ap (λ b. is_in (by_test b) v) (sym holds)
 
   -- any other start depends on what its node waited for, on what it hears, and on its inputs
   pub start_plain : (a b c : List ℕ) (node : ℕ) → (process_at g p).frozen ≡ false → node ≡ node_of g p →
@@ -37,11 +38,11 @@ module _ (g : Graph) (r : Reach) (known : List (List ℕ)) (p : ℕ) where
       Adds a (heard_by g r node (conditions_of g p)) b →
       Adds b (flat_map (input_reach g r) (inputs g p)) c → SameElements c (start_by g r known p)
   -- one after another: what was known, what is heard and the inputs are added
-  start_plain a b c node e n is heard ins v =
+  start_plain a b c node fails n is heard ins v =
       same_after b (get_or known node [] ++ heard_by g r node (conditions_of g p))
       (flat_map (input_reach g r) (inputs g p)) c
       (same_after a (get_or known node []) (heard_by g r node (conditions_of g p)) b
       (λ u. ap (λ xs. is_in xs u) is) heard) ins v
       ∙ ap (λ m. is_in (get_or known m [] ++ heard_by g r m (conditions_of g p)
       ++ flat_map (input_reach g r) (inputs g p)) v) n
-      ∙ ap (λ t. is_in (by_test t) v) (sym e)
+      ∙ ap (λ t. is_in (by_test t) v) (sym fails)

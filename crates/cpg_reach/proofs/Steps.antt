@@ -61,45 +61,46 @@ module _ (g : Graph) (order : List ℕ) (top : IsTopological g order) (r : Reach
   -- a condition that decides process p is one of the graph, and its process stands before p
   decides_before : (p c : ℕ) → Contains (conditions_of g p) c →
       (c < condition_count g) × (place order (process_of g c) < place order p)
-  decides_before p c k =
-      let a = Contains-filter_parts (λ c. list_any (λ o. decides g o p c) (outcomes (condition_count g)))
-      (numbers_below (condition_count g)) c k in
-      let o = list_any_parts (λ o. decides g o p c) (outcomes (condition_count g)) a.1 in
-      let l = numbers-Contains (condition_count g) c a.0 in
-      (l, decides_earlier g order top o.0 p c l o.2)
+  decides_before p c there =
+      let kept = Contains-filter_parts (λ c. list_any (λ o. decides g o p c) (outcomes (condition_count g)))
+      (numbers_below (condition_count g)) c there in
+      let outcome = list_any_parts (λ o. decides g o p c) (outcomes (condition_count g)) kept.1 in
+      let within = numbers-Contains (condition_count g) c kept.0 in
+      (within, decides_earlier g order top outcome.0 p c within outcome.2)
 
   -- given: what is found is right up to moment m
   module _ (k m : ℕ) (rs known sent : List (List ℕ)) (agrees : AgreesUntil g order r k m rs known sent) where
     -- what the end of process q depends on is right, if q starts before moment m
     end_right : (q : ℕ) → q < process_count g → place order q * phases g + 0 < m →
         SameElements (end_reach rs q) (end_reach r q)
-    end_right q l h = same_append (reach_of rs q) (q ∷ []) (reach_of r q) (q ∷ [])
-        (agrees.reached q (omega arith) (let e = moment_of_start g order top q l in omega arith)) (λ v. refl)
+    end_right q within h = same_append (reach_of rs q) (q ∷ []) (reach_of r q) (q ∷ [])
+        (agrees.reached q (omega arith) (let moment_is = moment_of_start g order top q within in
+        omega arith)) (λ v. refl)
 
     -- what hearing condition c depends on is right, if its process stands before the place of p
     hearing_right : (p c node : ℕ) → place order p * phases g ≤ m → c < condition_count g →
         place order (process_of g c) < place order p →
         SameElements (hearing_reach g rs node c) (hearing_reach g r node c)
-    hearing_right p c node d n l = let b = end_sooner g order top p (process_of g c) l in
+    hearing_right p c node d within less = let ends_before = end_sooner g order top p (process_of g c) less in
         same_cond (node_of g (process_of g c) == node) (end_reach rs (process_of g c))
         (reach_of rs (broadcast_item g c)) (end_reach r (process_of g c)) (reach_of r (broadcast_item g c))
-        (λ t. end_right (process_of g c) (process_of_below g c n) (omega arith))
-        (λ t. agrees.reached (broadcast_item g c) (omega arith) (omega (arith, broadcast_sooner g order top p c l)))
+        (λ t. end_right (process_of g c) (process_of_below g c within) (omega arith))
+        (λ t. agrees.reached (broadcast_item g c) (omega arith) (omega (arith, broadcast_sooner g order top p c less)))
 
     -- what an input of p depends on is right, since its source stands before p
     input_right : (p e : ℕ) → place order p * phases g ≤ m → Contains (inputs g p) e →
         SameElements (input_reach g rs e) (input_reach g r e)
-    input_right p e d i =
-        let l : e < edge_count g = (inputs_parts g p e i).0 in
-        let up = input_goes_up g order top p e i in
-        let b = end_sooner g order top p (source g e) up in
+    input_right p e at_most there =
+        let within : e < edge_count g = (inputs_parts g p e there).0 in
+        let up = input_goes_up g order top p e there in
+        let ends_before = end_sooner g order top p (source g e) up in
         same_append (cond (is_message g e) (reach_of rs (message_item g e)) (end_reach rs (source g e)))
         (source_value g e)
         (cond (is_message g e) (reach_of r (message_item g e)) (end_reach r (source g e))) (source_value g e)
         (same_cond (is_message g e) (reach_of rs (message_item g e)) (end_reach rs (source g e))
         (reach_of r (message_item g e)) (end_reach r (source g e))
-        (λ t. agrees.reached (message_item g e) (omega arith) (omega (arith, message_sooner g order top p e l up)))
-        (λ t. end_right (source g e) (source_in_order g order top e l) (omega arith)))
+        (λ t. agrees.reached (message_item g e) (omega arith) (omega (arith, message_sooner g order top p e within up)))
+        (λ t. end_right (source g e) (source_in_order g order top e within) (omega arith)))
         (λ v. refl)
 
   -- ---- a start
@@ -132,16 +133,16 @@ module _ (g : Graph) (order : List ℕ) (top : IsTopological g order) (r : Reach
     heard_right : SameElements (heard_own rs) (heard_own r)
     heard_right = same_flat_map (λ c. value_variable c ∷ hearing_reach g rs (node_of g p) c)
         (λ c. value_variable c ∷ hearing_reach g r (node_of g p) c) (conditions_of g p)
-        (λ c i. let b = decides_before p c i in
+        (λ c among. let before = decides_before p c among in
         same_append (value_variable c ∷ []) (hearing_reach g rs (node_of g p) c) (value_variable c ∷ [])
         (hearing_reach g r (node_of g p) c) (λ v. refl)
         (hearing_right (place order p) (place order p * phases g) rs known sent agrees p c (node_of g p)
-        (omega arith) b.0 b.1))
+        (omega arith) before.0 before.1))
 
     -- what the inputs of the process depend on is right
     ins_right : SameElements (ins rs) (ins r)
     ins_right = same_flat_map (input_reach g rs) (input_reach g r) (inputs g p)
-        (λ e i. input_right (place order p) (place order p * phases g) rs known sent agrees p e (omega arith) i)
+        (λ e among. input_right (place order p) (place order p * phases g) rs known sent agrees p e (omega arith) among)
 
     -- what hearing the conditions of the processes up to p depends on: those before p, then p
     heard_up_to : heard_by g r (node_of g p) (flat_map (conditions_of g) (earlier ++ p ∷ []))
@@ -173,7 +174,7 @@ module _ (g : Graph) (order : List ℕ) (top : IsTopological g order) (r : Reach
 
     -- the reach that is found for the start is right
     pub start_right : (reach : List ℕ) → SameElements reach (start_by g rs known p) → SameElements reach (reach_of r p)
-    start_right reach h v = h v
+    start_right reach same v = same v
         ∙ same_cond (process_at g p).frozen (map value_variable (conditions_of g p))
         (get_or known (node_of g p) [] ++ heard_own rs ++ ins rs) (map value_variable (conditions_of g p))
         (heard_by g r (node_of g p) (flat_map (conditions_of g) (earlier ++ p ∷ [])) ++ ends_earlier ++ ins r)
@@ -185,9 +186,9 @@ module _ (g : Graph) (order : List ℕ) (top : IsTopological g order) (r : Reach
         on_node g order (place order p + 1) node ≡ on_node g order (place order p) node
         ++ cond (node_of g p == node) (p ∷ []) []
     on_node_next node =
-        let c = Contains-order (process_count g) order top.all p within in
-        ap (filter (λ q. node_of g q == node)) (take_more order (place order p) p (place-lt order p c)
-        ∙ ap (λ q. take (place order p) order ++ q ∷ []) (get_or-place order p p c))
+        let among = Contains-order (process_count g) order top.all p within in
+        ap (filter (λ q. node_of g q == node)) (take_more order (place order p) p (place-lt order p among)
+        ∙ ap (λ q. take (place order p) order ++ q ∷ []) (get_or-place order p p among))
         ∙ filter-append (λ q. node_of g q == node) (take (place order p) order) (p ∷ [])
 
     -- given: the reach of the start, and d, the set of p's node with what p hears, with its start and with its count
@@ -220,17 +221,17 @@ module _ (g : Graph) (order : List ℕ) (top : IsTopological g order) (r : Reach
           SameElements (get_or (set known (node_of g p) d) node [])
           (known_after g r node (on_node g order (place order p + 1) node))
       -- by whether p is on the node
-      knows_next node l v = elim (eqb_tells (node_of g p) node) [
-        | inl same ↦ ap (λ n. is_in (get_or (set known (node_of g p) d) n []) v) (sym same.1)
+      knows_next node inside v = elim (eqb_tells (node_of g p) node) [
+        | inl is_same ↦ ap (λ n. is_in (get_or (set known (node_of g p) d) n []) v) (sym is_same.1)
             ∙ ap (λ zs. is_in zs v)
-            (get_or-set_same known (node_of g p) d [] (let i = agrees.known_nodes in omega arith))
+            (get_or-set_same known (node_of g p) d [] (let count = agrees.known_nodes in omega arith))
             ∙ here v
-            ∙ ap (λ n. is_in (known_after g r n (on_node g order (place order p) n ++ p ∷ [])) v) same.1
+            ∙ ap (λ n. is_in (known_after g r n (on_node g order (place order p) n ++ p ∷ [])) v) is_same.1
             ∙ ap (λ qs. is_in (known_after g r node qs) v)
-            (ap (λ t. on_node g order (place order p) node ++ cond t (p ∷ []) []) (sym same.0)
+            (ap (λ t. on_node g order (place order p) node ++ cond t (p ∷ []) []) (sym is_same.0)
             ∙ sym (on_node_next node))
         | inr other ↦ ap (λ zs. is_in zs v) (get_or-set_other known (node_of g p) node d [] (λ e. other.1 (sym e)))
-            ∙ agrees.knows node l v
+            ∙ agrees.knows node inside v
             ∙ ap (λ qs. is_in (known_after g r node qs) v)
             (sym (append-nil (on_node g order (place order p) node))
             ∙ ap (λ t. on_node g order (place order p) node ++ cond t (p ∷ []) []) (sym other.0)
@@ -240,23 +241,24 @@ module _ (g : Graph) (order : List ℕ) (top : IsTopological g order) (r : Reach
       -- the reaches up to this moment are right: that of the process is the new one, and the others were found before
       reached_start : (y : ℕ) → y < item_count g → moment g order y < place order p * phases g + 2 →
           SameElements (reach_of (set rs p reach) y) (reach_of r y)
-      reached_start y l h v = ⊎_elim
+      reached_start y inside h v = ⊎_elim
           (λ (e : y ≡ p). ap (λ z. is_in (reach_of (set rs p reach) z) v) e
-          ∙ ap (λ zs. is_in zs v) (get_or-set_same rs p reach [] (let i = agrees.items in omega arith)) ∙ right v ∙
+          ∙ ap (λ zs. is_in zs v) (get_or-set_same rs p reach [] (let count = agrees.items in omega arith)) ∙ right v ∙
           ap (λ z. is_in (reach_of r z) v) (sym e))
           (λ (e : y ≡ p → ⊥). ap (λ zs. is_in zs v) (get_or-set_other rs p y reach [] e)
-          ∙ agrees.reached y l (sooner_than e) v)
+          ∙ agrees.reached y inside (sooner_than e) v)
           (cases_eq y p)
         where
           -- an item other than the start comes before it, as no item has the moment after it
           sooner_than : (y ≡ p → ⊥) → moment g order y < place order p * phases g
-          sooner_than e = ⊎_elim
+          sooner_than never = ⊎_elim
               (λ (d : moment g order y < place order p * phases g). d)
               (λ (d : place order p * phases g ≤ moment g order y). ⊎_elim
               (λ (f : moment g order y ≡ place order p * phases g + 1).
-              absurd (nothing_at_end g order top p y within l f))
-              (λ (f : moment g order y ≡ place order p * phases g + 1 → ⊥). absurd (e (same_moment g order top y p l
-              (omega arith) (let n = moment_of_start g order top p within in omega arith))))
+              absurd (nothing_at_end g order top p y within inside f))
+              (λ (f : moment g order y ≡ place order p * phases g + 1 → ⊥).
+              absurd (never (same_moment g order top y p inside
+              (omega arith) (let moment_is = moment_of_start g order top p within in omega arith))))
               (cases_eq (moment g order y) (place order p * phases g + 1)))
               (cases_lt (moment g order y) (place order p * phases g))
 
@@ -264,12 +266,14 @@ module _ (g : Graph) (order : List ℕ) (top : IsTopological g order) (r : Reach
       sends_start : (node : ℕ) →
           sent_before g order (place order p * phases g + 2) node ≡ sent_before g order (place order p * phases g) node
       sends_start node = ap (λ n. sent_before g order n node)
-          (let e : place order p * phases g + 2 ≡ (place order p * phases g + 1) + 1 = omega arith in e)
+          (let next_moment : place order p * phases g + 2 ≡ (place order p * phases g + 1) + 1 = omega arith in
+          next_moment)
           ∙ sent_kept g order top (place order p * phases g + 1) node
-          (λ y l t e. nothing_at_end g order top p y within l e)
-          ∙ sent_kept g order top (place order p * phases g) node (λ y l t e. both_ways _ (start_not_sent g p within)
-          (subst (λ z. is_sent g z ≡ true) (same_moment g order top y p l (omega arith)
-          (let n = moment_of_start g order top p within in omega arith)) t))
+          (λ y inside t same. nothing_at_end g order top p y within inside same)
+          ∙ sent_kept g order top (place order p * phases g) node
+          (λ y inside t e. both_ways _ (start_not_sent g p within)
+          (subst (λ z. is_sent g z ≡ true) (same_moment g order top y p inside (omega arith)
+          (let moment_is = moment_of_start g order top p within in omega arith)) t))
 
       -- with both set, all is right up to the moment of p's broadcast
       pub started_next : AgreesUntil g order r (place order p + 1) (place order p * phases g + 2) (set rs p reach)
@@ -289,35 +293,40 @@ module _ (g : Graph) (order : List ℕ) (top : IsTopological g order) (r : Reach
   -- what stands before an item in its node's queue is what the node has sent before
   queue_is : (x : ℕ) → x < item_count g → is_sent g x ≡ true →
       queued_before g order x ≡ sent_before g order (moment g order x) (home g x)
-  queue_is x l t = same_filter (λ y. is_queued_before g order y x)
+  queue_is x within is_true = same_filter (λ y. is_queued_before g order y x)
       (λ y. is_sent g y && (home g y == home g x) && nat_lt (moment g order y) (moment g order x))
       (numbers_below (item_count g))
-      (λ y k. same_truth _ _ (to_before y (numbers-Contains (item_count g) y k))
-      (from_before y (numbers-Contains (item_count g) y k)))
+      (λ y there. same_truth _ _ (to_before y (numbers-Contains (item_count g) y there))
+      (from_before y (numbers-Contains (item_count g) y there)))
     where
       -- an item that is queued before this one was sent by the same node before its moment
       to_before : (y : ℕ) → y < item_count g → is_queued_before g order y x ≡ true →
           (is_sent g y && (home g y == home g x) && nat_lt (moment g order y) (moment g order x)) ≡ true
-      to_before y m q = and_from _ _ (and_parts _ _ q).0
-          (lt-ltb _ _ (queued_sooner g order top y x m (phase_is_rank g (item_at g x) t) q))
+      to_before y below holds = and_from _ _ (and_parts _ _ holds).0
+          (lt-ltb _ _ (queued_sooner g order top y x below (phase_is_rank g (item_at g x) is_true) holds))
 
       -- an item that was sent by the same node before the moment is queued before this one
       from_before : (y : ℕ) → y < item_count g →
           (is_sent g y && (home g y == home g x) && nat_lt (moment g order y) (moment g order x)) ≡ true →
           is_queued_before g order y x ≡ true
-      from_before y m q =
-          let a = and_parts _ _ q in
-          let less = ltb-true _ _ a.1 in
-          let s = (and_parts _ _ a.0).0 in
-          let cy = Contains-order (process_count g) order top.all (producer g y) (producer_in_range g order top y m) in
-          let cx = Contains-order (process_count g) order top.all (producer g x) (producer_in_range g order top x l) in
-          and_from _ _ a.0 (elim (cases_order (place order (producer g y)) (place order (producer g x))) [
-            | inl e ↦ or_right _ _ (and_from _ _ (eq-eqb _ _ (same_place order (producer g y) (producer g x) cy cx e))
-                (lt-ltb _ _ (let w = ap (λ n. n * phases g) e in let u = phase_is_rank g (item_at g y) s in
-                let z = phase_is_rank g (item_at g x) t in omega arith)))
-            | inr (inl k) ↦ or_left _ _ (comes_before_from_places order (producer g y) (producer g x) cy k)
-            | inr (inr k) ↦ absurd (let w = sooner (place order (producer g x)) (place order (producer g y))
-                (phase (item_at g x)) (phases g) k (phase_below g x l) in omega arith)
+      from_before y inside holds =
+          let parts = and_parts _ _ holds in
+          let less = ltb-true _ _ parts.1 in
+          let goes_out = (and_parts _ _ parts.0).0 in
+          let y_there = Contains-order (process_count g) order top.all (producer g y)
+          (producer_in_range g order top y inside) in
+          let x_there = Contains-order (process_count g) order top.all (producer g x)
+          (producer_in_range g order top x within) in
+          and_from _ _ parts.0 (elim (cases_order (place order (producer g y)) (place order (producer g x))) [
+            | inl e ↦ or_right _ _ (and_from
+                _ _ (eq-eqb _ _ (same_place order (producer g y) (producer g x) y_there x_there e))
+                (lt-ltb _ _ (let same_products = ap (λ n. n * phases g) e in
+                let phase_y = phase_is_rank g (item_at g y) goes_out in
+                let phase_x = phase_is_rank g (item_at g x) is_true in omega arith)))
+            | inr (inl lesser) ↦ or_left _ _ (comes_before_from_places order (producer g y)
+                (producer g x) y_there lesser)
+            | inr (inr k) ↦ absurd (let later = sooner (place order (producer g x)) (place order (producer g y))
+                (phase (item_at g x)) (phases g) k (phase_below g x within) in omega arith)
           ])
 
   -- given: what is found before item x, which may be sent, and that it is right (`agrees`)
@@ -333,7 +342,8 @@ module _ (g : Graph) (order : List ℕ) (top : IsTopological g order) (r : Reach
         ++ sent_value g (item_at g x)) (send_reach g order r x)
     -- part by part: what decides a frozen item, or else its producer's end and what its node has sent before; then the
     -- value that it asks for
-    sent_right t = same_append (cond (is_frozen g x) values (end_reach rs (producer g x) ++ get_or sent (home g x) []))
+    sent_right goes_out = same_append
+        (cond (is_frozen g x) values (end_reach rs (producer g x) ++ get_or sent (home g x) []))
         (sent_value g (item_at g x))
         (cond (is_frozen g x) values (end_reach r (producer g x) ++ flat_map (reach_of r) (queued_before g order x)))
         (sent_value g (item_at g x))
@@ -343,9 +353,9 @@ module _ (g : Graph) (order : List ℕ) (top : IsTopological g order) (r : Reach
         (λ e. same_append (end_reach rs (producer g x)) (get_or sent (home g x) []) (end_reach r (producer g x))
         (flat_map (reach_of r) (queued_before g order x))
         (end_right k (moment g order x) rs known sent agrees (producer g x) (producer_in_range g order top x within)
-        (let u = phase_is_rank g (item_at g x) t in omega arith))
+        (let phase_is = phase_is_rank g (item_at g x) goes_out in omega arith))
         (λ v. agrees.sends (home g x) there v
-        ∙ ap (λ ys. is_in (flat_map (reach_of r) ys) v) (sym (queue_is x within t)))))
+        ∙ ap (λ ys. is_in (flat_map (reach_of r) ys) v) (sym (queue_is x within goes_out)))))
         (λ v. refl)
 
     -- what item i depends on by the rules, if it is sent, and nothing otherwise
@@ -363,16 +373,16 @@ module _ (g : Graph) (order : List ℕ) (top : IsTopological g order) (r : Reach
     module _ (i : Item) (at : item_at g x ≡ i) (rule : reach_by_item g order r x i ≡ if_sent i) where
       -- a set with what was found for the item has the variables of its reach
       pub send_right : (reach : List ℕ) → SameElements reach (send_by g rs sent i) → SameElements reach (reach_of r x)
-      send_right reach h v = h v
+      send_right reach same v = same v
           ∙ subst (λ j. SameElements (send_by g rs sent j) (if_sent j)) at any_right v
           ∙ ap (λ xs. is_in xs v) (sym rule)
           ∙ sym (is.each x v within ∙ ap (λ j. is_in (reach_by_item g order r x j) v) at)
 
       -- an item that is not sent depends on nothing
       pub unsent_empty : is_sent g x ≡ false → (v : ℕ) → is_in (reach_of r x) v ≡ false
-      unsent_empty e v =
+      unsent_empty fails v =
           is.each x v within ∙ ap (λ j. is_in (reach_by_item g order r x j) v) at ∙ ap (λ xs. is_in xs v) rule
-          ∙ ap (λ j. is_in (if_sent j) v) (sym at) ∙ ap (λ b. is_in (cond b (send_reach g order r x) []) v) e
+          ∙ ap (λ j. is_in (if_sent j) v) (sym at) ∙ ap (λ b. is_in (cond b (send_reach g order r x) []) v) fails
 
 -- ---- at first
 
@@ -382,13 +392,13 @@ pub walk_begins : (g : Graph) (order : List ℕ) (r : Reach) (rs known sent : Li
     AreEmpty (length g.nodes) sent →
     AgreesUntil g order r 0 0 rs known sent
 -- nothing has a moment below 0, and nothing is known or sent yet
-walk_begins g order r rs known sent a b c = record {
+walk_begins g order r rs known sent a empty are_empty = record {
   items = a.count;
-  known_nodes = b.count;
-  sent_nodes = c.count;
+  known_nodes = empty.count;
+  sent_nodes = are_empty.count;
   reached = λ x l h. absurd (omega arith);
-  knows = λ node l v. b.each node v;
-  sends = λ node l v. c.each node v ∙ ap (λ ys. is_in (flat_map (reach_of r) ys) v) (sym (none node));
+  knows = λ node l v. empty.each node v;
+  sends = λ node l v. are_empty.each node v ∙ ap (λ ys. is_in (flat_map (reach_of r) ys) v) (sym (none node));
 }
   where
     -- no item has a moment below 0
@@ -402,6 +412,6 @@ walk_begins g order r rs known sent a b c = record {
 pub walked_some : (g : Graph) (order : List ℕ) (top : IsTopological g order) (k m : ℕ) (rs known sent : List (List ℕ)) →
     ((r : Reach) → IsReach g order r → AgreesUntil g order r k m rs known sent)
     → (length rs ≡ item_count g) × (length known ≡ length g.nodes) × (length sent ≡ length g.nodes)
-walked_some g order top k m rs known sent h = let s = some_reach g order top in
-    let a = h s.0 s.1 in
-    (a.items, a.known_nodes, a.sent_nodes)
+walked_some g order top k m rs known sent h = let some = some_reach g order top in
+    let agrees = h some.0 some.1 in
+    (agrees.items, agrees.known_nodes, agrees.sent_nodes)

@@ -48,7 +48,7 @@ module _ (g : Graph) (order : List ℕ) (top : IsTopological g order) where
   -- the sets that the code reads by other names are the given ones; then `started_next` says that all is right
   start_settled p within rs seen seen_again known starts sent same again knows walked node at there reach a b c d right was
       heard started ended r is =
-      let n : node_of g p < length g.nodes = subst (λ x. x < length g.nodes) at there in
+      let node_within : node_of g p < length g.nodes = subst (λ x. x < length g.nodes) at there in
       let right_by : SameElements reach (start_by g rs known p) =
       subst (λ us. SameElements reach (start_by g us known p)) same
       (subst (λ us. SameElements reach (start_by g seen us p)) knows right) in
@@ -56,12 +56,12 @@ module _ (g : Graph) (order : List ℕ) (top : IsTopological g order) where
       subst (λ x. Adds (get_or known x []) (heard_by g rs x (conditions_of g p)) b) at
       (subst (λ us. Adds (get_or known node []) (heard_by g us node (conditions_of g p)) b) again
       (subst (λ xs. Adds xs (heard_by g seen_again node (conditions_of g p)) b) was heard)) in
-      let reach_is = start_right g order top r is p within rs known sent (walked r is) n reach right_by in
+      let reach_is = start_right g order top r is p within rs known sent (walked r is) node_within reach right_by in
       agrees_as g order r (place order p + 1) (place order p * phases g + 2) (place order p * phases g + 2)
       (set rs p reach) (set rs p reach) (set known (node_of g p) d)
       (set known node d) sent sent refl refl (ap (λ x. set known x d) (sym at)) refl
       (started_next g order top r is p within rs known sent
-      (walked r is) n reach b c d reach_is heard_here started ended)
+      (walked r is) node_within reach b c d reach_is heard_here started ended)
 
   -- Once the reach of item x, which may be sent, is set, all is right up to the next moment, m + 1.
   -- `rs`, `known`, `sent`: what is found before; `us`, `knows`, `sents`: what is found after that; `seen`, `sends`: `rs` and
@@ -77,17 +77,18 @@ module _ (g : Graph) (order : List ℕ) (top : IsTopological g order) where
   -- the sets that the code reads by other names are the given ones; then `settled` says that all is right
   send_settled k m x rs seen known sent sends us knows sents same again walked within i at when rule node here there
       reach b right us_is knows_is sents_is adds r is =
-      let n : home g x < length g.nodes = subst (λ y. y < length g.nodes) here there in
+      let home_within : home g x < length g.nodes = subst (λ y. y < length g.nodes) here there in
       let right_by : SameElements reach (send_by g rs sent i) = subst (λ vs. SameElements reach (send_by g vs sent i))
       same (subst (λ vs. SameElements reach (send_by g seen vs i)) again right) in
       let agrees : AgreesUntil g order r k (moment g order x) rs known sent =
       subst (λ y. AgreesUntil g order r k y rs known sent) (sym when) (walked r is) in
-      let reach_is = send_right g order top r is k x within rs known sent agrees n i at (rule r) reach right_by in
+      let reach_is = send_right g order top r is k x within rs known sent agrees home_within i at
+      (rule r) reach right_by in
       agrees_as g order r k (m + 1) (m + 1) (set rs x reach) us known knows (set sent (home g x) b) sents refl
       (sym us_is) (sym knows_is) (ap (λ y. set sent y b) (sym here) ∙ sym sents_is)
       (settled g order top r k m rs known sent (walked r is) x within when reach reach_is
-      (unsent_empty g order top r is k x within rs known sent agrees n i at (rule r)) b
-      (subst (λ y. Adds (get_or sent y []) reach b) here adds) n)
+      (unsent_empty g order top r is k x within rs known sent agrees home_within i at (rule r)) b
+      (subst (λ y. Adds (get_or sent y []) reach b) here adds) home_within)
 
   -- Once the reach of the broadcast of p's condition c is set, all is right up to the process's first message. The lists
   -- are named as in `send_settled`.
@@ -103,15 +104,17 @@ module _ (g : Graph) (order : List ℕ) (top : IsTopological g order) where
   -- a broadcast is an item that may be sent, and its moment is 2 past its process's first one
   broadcast_settled p c rs seen known sent sends us knows sents same again own walked node here there reach b right
       us_is knows_is sents_is adds r is =
-      let q = process_of_condition_of g p c own in
-      let l = condition_of_below g p c own in
+      let by_process = process_of_condition_of g p c own in
+      let within = condition_of_below g p c own in
       agrees_as g order r (place order p + 1) (place order p * phases g + 2 + 1)
       (place order p * phases g + 3) us us knows knows sents sents (omega arith) refl refl refl
       (send_settled (place order p + 1) (place order p * phases g + 2)
       (broadcast_item g c) rs seen known sent sends us knows sents same again walked (omega arith) (Broadcast c)
       (item_at-broadcast g c)
-      (ap (moment_of_item g order) (item_at-broadcast g c) ∙ ap (λ z. place order z * phases g + 2) q) (λ s. refl) node
-      (here ∙ ap (node_of g) (sym q) ∙ ap (λ i. node_of g (producer_of_item g i)) (sym (item_at-broadcast g c))) there
+      (ap (moment_of_item g order) (item_at-broadcast g c)
+      ∙ ap (λ z. place order z * phases g + 2) by_process) (λ s. refl) node
+      (here ∙ ap (node_of g) (sym by_process)
+      ∙ ap (λ i. node_of g (producer_of_item g i)) (sym (item_at-broadcast g c))) there
       reach b right us_is knows_is sents_is adds r is)
 
   -- a process without a condition has no broadcast, so all is right up to its first message already
@@ -122,12 +125,13 @@ module _ (g : Graph) (order : List ℕ) (top : IsTopological g order) where
       agrees_as g order r (place order p + 1) (place order p * phases g + 2 + 1)
       (place order p * phases g + 3) rs rs known known sent sent (omega arith) refl refl refl
       (skipped g order top r (place order p + 1) (place order p * phases g + 2) rs known sent (walked r is)
-      (λ y l e. let b = broadcast_at g order top p y within l e in
-      none_is_some (sym none ∙ ap (condition_of g) (sym b.2) ∙ condition_of_process_of g b.0 b.1)))
+      (λ y inside same. let broadcast = broadcast_at g order top p y within inside same in
+      none_is_some (sym none ∙ ap (condition_of g) (sym broadcast.2)
+      ∙ condition_of_process_of g broadcast.0 broadcast.1)))
     where
       -- None is no number
       none_is_some : {c : ℕ} → None ≡ Some c → ⊥
-      none_is_some e = cc
+      none_is_some same = cc
 
   -- Once the reach of the message of edge e, an output of p, is set, all is right up to the next edge's. The lists are
   -- named as in `send_settled`.
@@ -141,17 +145,18 @@ module _ (g : Graph) (order : List ℕ) (top : IsTopological g order) where
       Adds (get_or sent node []) reach b
       → Agrees g order (place order p + 1) (place order p * phases g + 3 + (e + 1)) us knows sents
   -- a message is an item that may be sent, at the moment of its edge
-  message_settled p e rs seen known sent sends us knows sents same again l q walked node here there reach b right us_is
-      knows_is sents_is adds r is =
+  message_settled p e rs seen known sent sends us knows sents same again within q walked node here there
+      reach b right us_is knows_is sents_is adds r is =
       agrees_as g order r (place order p + 1) (place order p * phases g + 3 + e + 1)
       (place order p * phases g + 3 + (e + 1)) us us knows knows sents sents (omega arith) refl refl refl
       (send_settled (place order p + 1) (place order p * phases g + 3 + e)
       (message_item g e) rs seen known sent sends us knows sents same again walked (omega arith) (Message e)
-      (item_at-message g e l)
-      (ap (moment_of_item g order) (item_at-message g e l) ∙ ap (λ z. place order z * phases g + (e + 3)) q ∙
-      (let x : place order p * phases g + (e + 3) ≡ place order p * phases g + 3 + e = omega arith in x))
+      (item_at-message g e within)
+      (ap (moment_of_item g order) (item_at-message g e within) ∙ ap (λ z. place order z * phases g + (e + 3)) q ∙
+      (let same_sum : place order p * phases g + (e + 3) ≡ place order p * phases g + 3 + e = omega arith in same_sum))
       (λ s. refl) node
-      (here ∙ ap (node_of g) (sym q) ∙ ap (λ i. node_of g (producer_of_item g i)) (sym (item_at-message g e l))) there
+      (here ∙ ap (node_of g) (sym q)
+      ∙ ap (λ i. node_of g (producer_of_item g i)) (sym (item_at-message g e within))) there
       reach b right us_is knows_is sents_is adds r is)
 
   -- an edge from another process has no item at this moment, so all is right up to the next edge's already
@@ -160,21 +165,23 @@ module _ (g : Graph) (order : List ℕ) (top : IsTopological g order) where
       Agrees g order (place order p + 1) (place order p * phases g + 3 + e) rs known sent →
       Agrees g order (place order p + 1) (place order p * phases g + 3 + (e + 1)) rs known sent
   -- the item with that moment would be the message of an edge from p
-  no_message p e within l rs known sent other walked r is =
+  no_message p e within inside rs known sent other walked r is =
       agrees_as g order r (place order p + 1) (place order p * phases g + 3 + e + 1)
       (place order p * phases g + 3 + (e + 1)) rs rs known known sent sent (omega arith) refl refl refl
       (skipped g order top r (place order p + 1) (place order p * phases g + 3 + e) rs known sent (walked r is)
-      (λ y i h. other (message_at g order top p e y within l i
-      (h ∙ (let x : place order p * phases g + 3 + e ≡ place order p * phases g + (e + 3) = omega arith in x)))))
+      (λ y i h. other (message_at g order top p e y within inside i
+      (h ∙ (let same_sum : place order p * phases g + 3 + e ≡ place order p * phases g + (e + 3) = omega arith in
+      same_sum)))))
 
   -- empty sets are right before the first process
   pub walk_starts : (items nodes : ℕ) (rs known sent : List (List ℕ)) → items ≡ item_count g → nodes ≡ length g.nodes →
       AreEmpty items rs → AreEmpty nodes known →
       AreEmpty nodes sent →
       Agrees g order 0 (0 * phases g) rs known sent
-  walk_starts items nodes rs known sent i n a b c r is =
+  walk_starts items nodes rs known sent i n empty are_empty c r is =
       agrees_as g order r 0 0 (0 * phases g) rs rs known known sent sent (omega arith) refl refl refl
-      (walk_begins g order r rs known sent (subst (λ m. AreEmpty m rs) i a) (subst (λ m. AreEmpty m known) n b)
+      (walk_begins g order r rs known sent (subst (λ m. AreEmpty m rs) i empty)
+      (subst (λ m. AreEmpty m known) n are_empty)
       (subst (λ m. AreEmpty m sent) n c))
 
   -- given: process p at place k of the order, and the graph by another name
@@ -200,8 +207,8 @@ module _ (g : Graph) (order : List ℕ) (top : IsTopological g order) where
   pub all_reached : (k : ℕ) (rs known sent : List (List ℕ)) → process_count g ≤ k →
       Agrees g order k (k * phases g) rs known sent →
       AreReaches g order rs
-  all_reached k rs known sent l walked = record {
+  all_reached k rs known sent at_most walked = record {
     count = (walked_some g order top k (k * phases g) rs known sent walked).0;
-    each = λ r is x within. (walked r is).reached x within (let b = moment_before_last g order top x within in
-        let c = mul-le-mul_right (phases g) l in omega arith);
+    each = λ r is x within. (walked r is).reached x within (let before_last = moment_before_last g order top x within in
+        let no_more = mul-le-mul_right (phases g) at_most in omega arith);
   }

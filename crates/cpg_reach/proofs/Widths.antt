@@ -24,19 +24,20 @@ use Rattle.cpg_reach.proofs.Adding.{set_at}
 
 -- two sets with the same variables have the same views
 pub same_views : (g : Graph) (xs ys : List ℕ) → SameElements xs ys → views g xs ≡ views g ys
-same_views g xs ys h =
-    let a = views_grow g xs ys (λ v t. sym (h v) ∙ t) in
-    let b = views_grow g ys xs (λ v t. h v ∙ t) in
+same_views g xs ys same =
+    let grows = views_grow g xs ys (λ v t. sym (same v) ∙ t) in
+    let shrinks = views_grow g ys xs (λ v t. same v ∙ t) in
     omega arith
 
 -- the views of a set in an admitted graph fit into 64 bits
 pub views_whole : (g : Graph) (order : List ℕ) (guards : Guards) → IsAdmitted g order guards → (reached : List ℕ) →
     min 18446744073709551615 (views g reached) ≡ views g reached
 views_whole g order guards admitted reached =
-    let t = tracks_exist g in
-    let n = count_of_tracks g t.0 t.1 in
+    let tracks = tracks_exist g in
+    let count = count_of_tracks g tracks.0 tracks.1 in
     let few = admitted.tracks in
-    let f = views_fit g admitted.limits.few_processes admitted.limits.faults reached t.0 t.1 (omega arith) in
+    let fit = views_fit g admitted.limits.few_processes admitted.limits.faults reached tracks.0
+    tracks.1 (omega arith) in
     omega arith
 
 -- the number n that is counted from the set `xs`, x's entry in the reaches that were found (`rs`), is the number of x's
@@ -46,10 +47,11 @@ pub has_views : (g : Graph) (order : List ℕ) (top : IsTopological g order) (gu
     AreReaches g order rs →
     (x n : ℕ) (xs : List ℕ) → x < item_count g → xs ≡ get_or rs x xs
     → n ≡ min 18446744073709551615 (views g xs) → HasViews g order x n
-has_views g order top guards urgency admitted rs are x n xs l at is = record {
+has_views g order top guards urgency admitted rs are x n xs within at is = record {
   some = some_reach g order top;
   each = λ r reached. is ∙ views_whole g urgency guards admitted xs ∙ same_views g xs (reach_of r x)
-      (λ v. ap (λ ys. is_in ys v) (set_at rs x xs (let c = are.count in omega arith) at) ∙ are.each r reached x l v);
+      (λ v. ap (λ ys. is_in ys v) (set_at rs x xs (let counted = are.count in omega arith) at)
+      ∙ are.each r reached x within v);
 }
 
 -- ---- the loads so far
@@ -70,7 +72,7 @@ loads_first g order = record { few = omega arith; sum = λ r is. refl; narrow = 
 -- a sum over the numbers up to x is that over those below x, and f x
 sum_next : (f : ℕ → ℕ) (x : ℕ) → sum_by f (numbers_below (x + 1)) ≡ sum_by f (numbers_below x) + f x
 sum_next f x = ap (sum_by f) (below_push x) ∙ sum_by-append f (numbers_below x) (x ∷ [])
-    ∙ (let e = sum_by-cons f x [] in omega arith)
+    ∙ (let split = sum_by-cons f x [] in omega arith)
 
 -- given: the load of the items before x (`loads`), none of which is too wide, and the set `xs` that is x's entry in the
 -- reaches that were found (`rs`)
@@ -80,7 +82,8 @@ module _ (g : Graph) (order : List ℕ) (top : IsTopological g order) (rs : Reac
   -- the views by the set are those of the item's reach
   views_are : (r : Reach) → IsReach g order r → views g xs ≡ views g (reach_of r x)
   views_are r is = same_views g xs (reach_of r x)
-      (λ v. ap (λ ys. is_in ys v) (set_at rs x xs (let c = are.count in omega arith) at) ∙ are.each r is x within v)
+      (λ v. ap (λ ys. is_in ys v) (set_at rs x xs (let counted = are.count in omega arith) at)
+      ∙ are.each r is x within v)
 
   -- what is tested by the set says whether the item is too wide
   wide_is : (r : Reach) → IsReach g order r → is_wide_by g xs x loads ≡ is_too_wide g r x
@@ -96,21 +99,22 @@ module _ (g : Graph) (order : List ℕ) (top : IsTopological g order) (rs : Reac
     sum = λ r is. h.sum ∙ ap₂ ◌+◌ (so_far.sum r is) (ap (λ n. n * rows_of_item g (item_at g x)) (views_are r is))
         ∙ sym (sum_next (load g r) x);
     narrow = λ r is y l. ⊎_elim
-        (λ (k : y < x). so_far.narrow r is y k)
-        (λ (k : x ≤ y). ap (is_too_wide g r) (let e : y ≡ x = omega arith in e) ∙ sym (wide_is r is) ∙ h.narrow)
+        (λ (earlier : y < x). so_far.narrow r is y earlier)
+        (λ (last : x ≤ y). ap (is_too_wide g r) (let same : y ≡ x = omega arith in same)
+        ∙ sym (wide_is r is) ∙ h.narrow)
         (cases_lt y x);
   }
 
   -- if it is too wide, it is the first that is
   pub least_wide : is_wide_by g xs x loads ≡ true → IsLeastWide g order x
-  least_wide t = record {
-    wide = let s = some_reach g order top in
-        record { reach = s.0; reached = s.1; within = within; wide = sym (wide_is s.0 s.1) ∙ t };
+  least_wide holds = record {
+    wide = let some = some_reach g order top in
+        record { reach = some.0; reached = some.1; within = within; wide = sym (wide_is some.0 some.1) ∙ holds };
     least = λ y l w. both_ways _ (so_far.narrow w.reach w.reached y l) w.wide;
   }
 
 -- if no item is left, no item is too wide
 pub none_wide : (g : Graph) (order : List ℕ) (x loads : ℕ) → item_count g ≤ x → AreLoads g order x loads →
     IsNarrow g order
-none_wide g order x loads l h =
-    λ y w. both_ways _ (h.narrow w.reach w.reached y (let i = w.within in omega arith)) w.wide
+none_wide g order x loads at_most h =
+    λ y w. both_ways _ (h.narrow w.reach w.reached y (let within = w.within in omega arith)) w.wide

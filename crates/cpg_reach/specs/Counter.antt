@@ -7,7 +7,7 @@ use Rattle.cpg_reach.specs.WaysTable.{AreWays}
 
 -- the counter is made for this graph and this order
 pub record IsCounterFor (g : Graph) (order : List ℕ) (c : Counter) : Type 0 where
-  -- for each number of counts it has the ways to add up to at most k faults
+  -- for each number of fault counts it has in how many ways they add up to at most the faults of the graph
   pub ways : AreWays g.faults c.ways
   -- it has the conditions in the order of their processes
   pub conditions : c.conditions.items ≡ conditions_along g order

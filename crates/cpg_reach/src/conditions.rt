@@ -9,7 +9,7 @@ use cpg_base::OutOfMemory;
 use cpg_rules::{Admitted, GuardTop, GuardTree};
 use std::alloc::Global;
 
-/// Adds the values of all conditions that a guard tests.
+/// Adds to `values` those of all conditions that a guard tests.
 fn add_tested(tree: &GuardTree, values: &mut Variables)
     requires { TestsBelow 32 tree.now }
     ensures { Adds values.old (tested_values tree.now) values.new }

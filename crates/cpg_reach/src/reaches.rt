@@ -39,8 +39,8 @@ fn empty_sets(alloc: Global, count: usize) -> Result<Vec<Variables>, OutOfMemory
     Ok(sets)
 }
 
-/// Adds the reach of the start of a process, and what the process makes later ones on its node wait for. The contract
-/// alone names `order`.
+/// Adds to the walk the reach of the start of a process, and what the process makes later ones on its node wait for.
+/// The contract alone names `order`.
 fn settle_start(
     problem: &Problem,
     order: &Order,
@@ -80,7 +80,7 @@ fn settle_start(
     walk.reaches[process as usize] = reach;
 }
 
-/// Sets the reach of an item, and adds it to what its node has sent.
+/// Sets the reach of an item in the walk, and adds it to what the sends of its node depend on.
 fn settle(item: usize, node: u32, reach: Variables, walk: &mut OrderWalk)
     requires item { item < length walk.old.reaches.items }
     requires node { node < length walk.old.sent.items }
@@ -94,7 +94,8 @@ fn settle(item: usize, node: u32, reach: Variables, walk: &mut OrderWalk)
     walk.reaches[item] = reach;
 }
 
-/// Adds the reach of the broadcast of a process's condition, if it has one. The contract alone names `order`.
+/// Adds to the walk the reach of the broadcast of a process's condition, if the process has one. The contract alone
+/// names `order`.
 fn settle_broadcast(problem: &Problem, order: &Order, process: u32, walk: &mut OrderWalk)
     requires order { IsTopological problem.now order.now }
     requires process { process < process_count problem.now }
@@ -116,7 +117,8 @@ fn settle_broadcast(problem: &Problem, order: &Order, process: u32, walk: &mut O
     settle(item, problem.node_of(process), reach, walk);
 }
 
-/// Adds the reach of the message of an edge, if the edge comes from the process. The contract alone names `order`.
+/// Adds to the walk the reach of the message of an edge, if the edge comes from the process. The contract alone names
+/// `order`.
 fn settle_message(
     problem: &Problem,
     order: &Order,
@@ -148,7 +150,7 @@ fn settle_message(
     settle(item, problem.node_of(process), reach, walk);
 }
 
-/// Adds the reaches of the start of a process and of all that it sends.
+/// Adds to the walk the reaches of the start of a process and of all that it sends.
 fn settle_process(
     problem: &Problem,
     order: &Order,

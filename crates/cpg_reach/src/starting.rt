@@ -12,7 +12,7 @@ ghost use Rattle.cpg_reach.specs.Walked.{heard_by, start_by};
 use crate::variables::{FIRST_VALUE, Variables};
 use cpg_base::Problem;
 
-/// Adds what the end of a process depends on: what its start does, and its fault count.
+/// Adds to `reach` what the end of a process depends on: what its start depends on, and its fault count.
 pub fn add_end(reaches: &[Variables], process: u32, reach: &mut Variables)
     requires process { process < length reaches.now }
     requires variable { process < 128 }
@@ -22,7 +22,8 @@ pub fn add_end(reaches: &[Variables], process: u32, reach: &mut Variables)
     reach.insert(process);
 }
 
-/// Adds the value that an edge asks for: its source's condition, if the edge has a `when` and the source a condition.
+/// Adds to `reach` the value that an edge asks for, that of its source's condition. An edge without a `when`, or of a
+/// source without a condition, asks for none.
 pub fn add_source_value(problem: &Problem, edge: u32, reach: &mut Variables)
     requires { edge < edge_count problem.now }
     ensures { Adds reach.old (source_value problem.now edge) reach.new }
@@ -36,7 +37,7 @@ pub fn add_source_value(problem: &Problem, edge: u32, reach: &mut Variables)
     }
 }
 
-/// Adds what the time depends on at which a node hears a condition.
+/// Adds to `reach` what the time depends on at which a node hears a condition.
 fn add_hearing(
     problem: &Problem,
     reaches: &[Variables],
@@ -58,7 +59,8 @@ fn add_hearing(
     }
 }
 
-/// Adds the values of the conditions that decide a process, and what the times depend on at which the node hears them.
+/// Adds to `reach` the values of the conditions that decide a process, and what the times depend on at which the node
+/// hears them.
 pub fn add_heard(
     problem: &Problem,
     deciding: &[Variables],
@@ -80,7 +82,7 @@ pub fn add_heard(
     }
 }
 
-/// Adds what the time depends on at which an input is there, and the value that its edge asks for.
+/// Adds to `reach` what the time depends on at which an input is there, and the value that its edge asks for.
 fn add_input(problem: &Problem, reaches: &[Variables], edge: u32, reach: &mut Variables)
     requires edge { edge < edge_count problem.now }
     requires items { length reaches.now ≡ item_count problem.now }
@@ -97,7 +99,8 @@ fn add_input(problem: &Problem, reaches: &[Variables], edge: u32, reach: &mut Va
     add_source_value(problem, edge, reach);
 }
 
-/// Adds what the times depend on at which the inputs of a process are there.
+/// Adds to `reach` what the times depend on at which the inputs of a process are there, and the values that their edges
+/// ask for.
 fn add_inputs(problem: &Problem, reaches: &[Variables], process: u32, reach: &mut Variables)
     requires { length reaches.now ≡ item_count problem.now }
     ensures { Adds reach.old (flat_map (input_reach problem.now reaches.now) (inputs problem.now process)) reach.new }

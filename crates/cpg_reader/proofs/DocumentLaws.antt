@@ -17,15 +17,15 @@ problem_of-read bytes ms text read = rw (is_utf8-from_IsUtf8 bytes text, read) r
 
 -- an option after a test is `None` if it is so whenever the test passes
 none_if : (b : Bool) (o : Option Members) → (b ≡ true → o ≡ None) → cond b o None ≡ None
-none_if true o h = h refl
-none_if false o h = refl
+none_if true o each = each refl
+none_if false o each = refl
 
 -- bytes that aren't UTF-8, or spell no document, are refused as no TOML
 pub problem_of-refused : (bytes : List ℕ) → (IsUtf8 bytes → parse_document bytes ≡ None) →
     problem_of bytes ≡ Err NotToml
 unfolding problem_of document_of
-problem_of-refused bytes h =
-    rw (none_if (is_utf8 bytes) (parse_document bytes) (λ e. h (IsUtf8-from_is_utf8 bytes e))) refl
+problem_of-refused bytes each =
+    rw (none_if (is_utf8 bytes) (parse_document bytes) (λ e. each (IsUtf8-from_is_utf8 bytes e))) refl
 
 -- what code answers is what reading gives, if the code gives it and memory hasn't run out; by the answer
 pub answer-is : {T : Type 0} (answer reading : Reading T) → Gives (λ x. x) answer reading → answer ≢ Err OutOfMemory →

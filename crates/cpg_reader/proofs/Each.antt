@@ -31,7 +31,7 @@ each-map f step i (x ∷ xs) = rw (each-map f step (i + 1) xs) refl
 -- the elements from a place on begin with the one at the place
 pub drop-here : {T : Type 0} (xs : List T) (i : ℕ) (x : T) → i < length xs → x ≡ get_or xs i x →
     drop i xs ≡ x ∷ drop (i + 1) xs
-drop-here xs i x h is = drop_more xs i x h ∙ ap (λ y. y ∷ drop (i + 1) xs) (sym is)
+drop-here xs i x below is = drop_more xs i x below ∙ ap (λ y. y ∷ drop (i + 1) xs) (sym is)
 
 -- given a step, where `whole` is what a loop's reading of all elements comes to, with ys for those before i
 module _ {T U : Type 0} (step : ℕ → T → Reading U) where
@@ -40,13 +40,13 @@ module _ {T U : Type 0} (step : ℕ → T → Reading U) where
       i < length xs → x ≡ get_or xs i x →
       Refuses fault (step i x)
       → after ys (each step i (drop i xs)) ≡ whole → Refuses fault whole
-  refused xs i x ys fault whole h is r so_far =
-      let here = rw (drop-here xs i x h is) at so_far in
+  refused xs i x ys fault whole below is r so_far =
+      let here = rw (drop-here xs i x below is) at so_far in
       Refuses-along fault (step i x) whole (λ f e. sym here ∙ rw e refl) r
 
   -- if i is past the last element, the whole list was read as ys
   pub ends : (xs : List T) (i : ℕ) (ys : List U) (whole : Reading (List U)) → length xs ≤ i →
       after ys (each step i (drop i xs)) ≡ whole → whole ≡ Ok ys
-  ends xs i ys whole h so_far =
-      let read = rw (drop_of_length-le xs h) at so_far in
+  ends xs i ys whole at_most so_far =
+      let read = rw (drop_of_length-le xs at_most) at so_far in
       sym read ∙ ap (λ l. Ok l) (append-nil ys)

@@ -11,7 +11,7 @@ use Rattle.cpg_reader.specs.Rows.{items_as}
 -- the elements from place i on are the one there and those after it
 here : (xs : List Value) (i : ℕ) (x : Value) → i < length xs → x ≡ get_or xs i x →
     items_view (drop i xs) ≡ item (view x) (items_view (drop (i + 1) xs))
-here xs i x h is = items_view-drop xs i x h ∙ ap (λ v. item (view v) (items_view (drop (i + 1) xs))) (sym is)
+here xs i x below is = items_view-drop xs i x below ∙ ap (λ v. item (view v) (items_view (drop (i + 1) xs))) (sym is)
 
 -- the elements taken so far, followed by what is taken of the rest, if all of it is
 abbrev pub after : {T : Type 0} → List T → Option (List T) → Option (List T)

@@ -34,7 +34,7 @@ use Rattle.cpg_reader.proofs.RawReads.{all_by_recursion}
 
 -- a number from low to high passes the test of its range
 within : (low high n : ℕ) → low ≤ n → n ≤ high → is_within low high (pos n) ≡ true
-within low high n l h = rw (le-leb low n l, le-leb n high h) refl
+within low high n n_at_most h = rw (le-leb low n n_at_most, le-leb n high h) refl
 
 -- each number passes the test of its range
 abbrev pub AreWithin : List BoundedField → Type 0
@@ -65,35 +65,36 @@ at_most-few limit what xs h = rw (le-leb (length xs) limit h) refl
 apart_if : (seen : List (List ℕ)) (name : List ℕ) (b : Bool) → list_any (bytes_eq name) seen ≡ b →
     AllPairs (λ a b. a ≢ b) seen →
     AllPairs (λ a b. a ≢ b) (cond b seen (seen ++ name ∷ []))
-apart_if seen name true e h = h
-apart_if seen name false e h = all_pairs_push (λ a b. a ≢ b) seen name h
+apart_if seen name true e pairs = pairs
+apart_if seen name false e pairs = all_pairs_push (λ a b. a ≢ b) seen name pairs
     (λ k d l is. absurd (Bool_apart (sym ((bytes_eq-Decides name (get_or seen k d)).1 (sym is))
     ∙ from_any_false (bytes_eq name) seen (get_or seen k d) e (Contains-get_or seen k d l))))
   where
     -- true isn't false
     Bool_apart : true ≡ false → ⊥
-    Bool_apart e = cc
+    Bool_apart equal = cc
 
 -- the different ones among names differ; by induction on the names
 different-apart : (seen names : List (List ℕ)) → AllPairs (λ a b. a ≢ b) seen →
     AllPairs (λ a b. a ≢ b) (different seen names)
-different-apart seen [] h = h
-different-apart seen (name ∷ names) h = different-apart (cond (list_any (bytes_eq name) seen) seen (seen ++ name ∷ []))
-    names (apart_if seen name (list_any (bytes_eq name) seen) refl h)
+different-apart seen [] pairs = pairs
+different-apart seen (name ∷ names) pairs = different-apart
+    (cond (list_any (bytes_eq name) seen) seen (seen ++ name ∷ []))
+    names (apart_if seen name (list_any (bytes_eq name) seen) refl pairs)
 
 -- what is among `seen`, with `name` behind them or left out, is among `seen` or is `name`
 from_if : (seen : List (List ℕ)) (name x : List ℕ) (b : Bool) → Contains (cond b seen (seen ++ name ∷ [])) x →
     Contains seen x ⊎ (name ≡ x)
-from_if seen name x true c = inl c
-from_if seen name x false c = ⊎_elim
+from_if seen name x true among = inl among
+from_if seen name x false among = ⊎_elim
     (λ (d : Contains seen x). inl d)
     (λ (d : Contains (name ∷ []) x). ⊎_elim (λ (e : name ≡ x). inr e) (λ (f : Contains [] x). absurd (Contains-nil x f))
     (Contains-cases name [] x d))
-    (Contains-append_cases seen (name ∷ []) x c)
+    (Contains-append_cases seen (name ∷ []) x among)
 
 -- the first element is in its list
 Contains-head : (x y : List ℕ) (xs : List (List ℕ)) → x ≡ y → Contains (x ∷ xs) y
-Contains-head x y xs e = (0, omega arith, e)
+Contains-head x y xs same = (0, omega arith, same)
 
 -- what is in a list is in it with a further element in front
 Contains-tail : (x y : List ℕ) (xs : List (List ℕ)) → Contains xs y → Contains (x ∷ xs) y
@@ -102,14 +103,14 @@ Contains-tail x y xs (k, l, e) = (suc k, omega (arith, l), e)
 -- each of the different ones among names was seen before, or is one of the names; by induction on the names
 different-from : (seen names : List (List ℕ)) (x : List ℕ) → Contains (different seen names) x →
     Contains seen x ⊎ Contains names x
-different-from seen [] x c = inl c
-different-from seen (name ∷ names) x c = ⊎_elim
+different-from seen [] x among = inl among
+different-from seen (name ∷ names) x among = ⊎_elim
     (λ (d : Contains (cond (list_any (bytes_eq name) seen) seen (seen ++ name ∷ [])) x). ⊎_elim
     (λ (e : Contains seen x). inl e)
     (λ (e : name ≡ x). inr (Contains-head name x names e))
     (from_if seen name x (list_any (bytes_eq name) seen) d))
     (λ (d : Contains names x). inr (Contains-tail name x names d))
-    (different-from (cond (list_any (bytes_eq name) seen) seen (seen ++ name ∷ [])) names x c)
+    (different-from (cond (list_any (bytes_eq name) seen) seen (seen ++ name ∷ [])) names x among)
 
 -- given a graph within the limits
 module _ (g : Graph) (limited : IsWithinLimits g) where
@@ -126,9 +127,9 @@ module _ (g : Graph) (limited : IsWithinLimits g) where
   source_named : (x : List ℕ) → Contains (sources (map (raw_edge (names_of g.processes)) g.edges)) x →
       Contains (map name_of conditional) x
   unfolding name_of conditional
-  source_named x c =
+  source_named x among =
       let (raw, there, is) = Contains-map_parts (λ (r : RawEdge). r.from)
-      (filter (λ (r : RawEdge). is_some r.when) (map (raw_edge (names_of g.processes)) g.edges)) x c in
+      (filter (λ (r : RawEdge). is_some r.when) (map (raw_edge (names_of g.processes)) g.edges)) x among in
       let (found, test) = Contains-filter_parts (λ (r : RawEdge). is_some r.when)
       (map (raw_edge (names_of g.processes)) g.edges) raw there in
       let (e, here, same) = Contains-map_parts (raw_edge (names_of g.processes)) g.edges raw found in

@@ -47,28 +47,28 @@ pub record AreLimits (g : RawGraph) : Type 0 where
 -- if a test and the step after it succeed, the test passes, and the step succeeds
 passes : {T : Type 0} (b : Bool) (next : Reading T) (fault : ReadFault) (x : T) → cond b next (Err fault) ≡ Ok x →
     (b ≡ true) × (next ≡ Ok x)
-passes true next fault x h = (refl, h)
-passes false next fault x h = cc
+passes true next fault x is = (refl, is)
+passes false next fault x is = cc
 
 -- a list that passes its check is no longer than its limit
 at_most-le : {T : Type 0} (limit : ℕ) (what : What) (xs : List T) (x : Unit {0}) → at_most limit what xs ≡ Ok x →
     length xs ≤ limit
-at_most-le limit what xs x h = leb-true (length xs) limit (passes (nat_le (length xs) limit) done _ x h).0
+at_most-le limit what xs x is = leb-true (length xs) limit (passes (nat_le (length xs) limit) done _ x is).0
 
 -- a number that passes the test of its range is a natural number in this range
 natural-within : (low high : ℕ) (value : ℤ) → is_within low high value ≡ true →
     (low ≤ natural value) × (natural value ≤ high)
-natural-within low high (pos n) h =
-    let (above, below) = and_parts (nat_le low n) (nat_le n high) h in
+natural-within low high (pos n) is_true =
+    let (above, below) = and_parts (nat_le low n) (nat_le n high) is_true in
     (leb-true low n above, leb-true n high below)
-natural-within low high (negsuc n) h = absurd (false≢true h)
+natural-within low high (negsuc n) is_true = absurd (false≢true is_true)
 
 -- numbers that pass their tests are in range; by induction on the numbers
 AreIn-from_in_range : (table : Table) (i : ℕ) (ns : List BoundedField) (x : Unit {0}) → in_range table i ns ≡ Ok x →
     AreIn ns
-AreIn-from_in_range table i [] x h = tt
-AreIn-from_in_range table i (n ∷ ns) x h =
-    let (here, rest) = passes (is_within n.low n.high n.value) (in_range table i ns) _ x h in
+AreIn-from_in_range table i [] x is = tt
+AreIn-from_in_range table i (n ∷ ns) x is =
+    let (here, rest) = passes (is_within n.low n.high n.value) (in_range table i ns) _ x is in
     let (low, high) = natural-within n.low n.high n.value here in
     (low, high, AreIn-from_in_range table i ns x rest)
 
@@ -78,20 +78,22 @@ all_in_range-at : {T : Type 0} (table : Table) (numbers_of : T → List BoundedF
     (x : Unit {0}) →
     all_in_range table numbers_of i xs ≡ Ok x →
     All (λ y. AreIn (numbers_of y)) xs
-all_in_range-at table numbers_of i [] x h k d l = absurd (omega arith)
-all_in_range-at table numbers_of i (y ∷ ys) x h zero d l =
-    let (_, here, rest) = then-parts (in_range table i (numbers_of y)) (all_in_range table numbers_of (i + 1) ys) x h in
+all_in_range-at table numbers_of i [] x is k d l = absurd (omega arith)
+all_in_range-at table numbers_of i (y ∷ ys) x is zero d l =
+    let (_, here, rest) = then-parts (in_range table i (numbers_of y))
+    (all_in_range table numbers_of (i + 1) ys) x is in
     AreIn-from_in_range table i (numbers_of y) _ here
-all_in_range-at table numbers_of i (y ∷ ys) x h (suc k) d l =
-    let (_, here, rest) = then-parts (in_range table i (numbers_of y)) (all_in_range table numbers_of (i + 1) ys) x h in
+all_in_range-at table numbers_of i (y ∷ ys) x is (suc k) d l =
+    let (_, here, rest) = then-parts (in_range table i (numbers_of y))
+    (all_in_range table numbers_of (i + 1) ys) x is in
     all_in_range-at table numbers_of (i + 1) ys x rest k d (omega arith)
 
 -- A document that passes all tests has few enough elements of each kind, and its numbers are in range. The tests are
 -- taken apart one after another: each passed.
 pub are_limits : (g : RawGraph) → limits g ≡ Ok tt → AreLimits g
 unfolding limits
-are_limits g h =
-    let (_, nodes, h1) = then-parts _ _ tt h in
+are_limits g is =
+    let (_, nodes, h1) = then-parts _ _ tt is in
     let (_, slots, h2) = then-parts _ _ tt h1 in
     let (_, processes, h3) = then-parts _ _ tt h2 in
     let (_, edges, h4) = then-parts _ _ tt h3 in
@@ -113,15 +115,15 @@ are_limits g h =
 
 -- the bytes of each slot fit 16 bits
 pub small_slots : (g : RawGraph) → limits g ≡ Ok tt → All (λ s. natural s.bytes ≤ 65535) g.slots
-small_slots g h k d l = ((are_limits g h).slot_ranges k d l).2.1
+small_slots g is k d l = ((are_limits g is).slot_ranges k d l).2.1
 
 -- the parts of each process fit 16 bits
 pub small_processes : (g : RawGraph) → limits g ≡ Ok tt → All (λ p. natural p.parts ≤ 65535) g.processes
-small_processes g h k d l = omega (arith, ((are_limits g h).process_ranges k d l).2.1)
+small_processes g is k d l = omega (arith, ((are_limits g is).process_ranges k d l).2.1)
 
 -- the bytes of each edge fit 16 bits
 pub small_edges : (g : RawGraph) → limits g ≡ Ok tt → All (λ e. natural e.bytes ≤ 65535) g.edges
-small_edges g h k d l = ((are_limits g h).edge_ranges k d l).1
+small_edges g is k d l = ((are_limits g is).edge_ranges k d l).1
 
 -- there are at most 128 names of nodes
 pub few_nodes : (g : RawGraph) (names : List (List ℕ)) → limits g ≡ Ok tt → names ≡ g.nodes → length names ≤ 128
@@ -135,10 +137,10 @@ few_processes g names h e = omega (arith, (are_limits g h).processes, ap length 
 -- what holds of all elements of a list holds of the one at a place of an equal list
 pub all_at : {X : Type 0} (P : X → Type 0) (xs ys : List X) (i : ℕ) (x : X) → All P xs → ys ≡ xs → i < length ys →
     x ≡ get_or ys i x → P x
-all_at P xs ys i x h e l is =
-    let there : get_or xs i x ≡ x = sym (is ∙ ap (λ zs. get_or zs i x) e) in
-    subst P there (h i x (subst (λ zs. i < length zs) e l))
+all_at P xs ys i x h same below is =
+    let there : get_or xs i x ≡ x = sym (is ∙ ap (λ zs. get_or zs i x) same) in
+    subst P there (h i x (subst (λ zs. i < length zs) same below))
 
 -- a cycle has at most 8 faults
 pub small_faults : (g : RawGraph) → limits g ≡ Ok tt → natural g.faults ≤ 8
-small_faults g h = (are_limits g h).top_range.1
+small_faults g is = (are_limits g is).top_range.1

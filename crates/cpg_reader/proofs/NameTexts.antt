@@ -15,8 +15,9 @@ is_name-from_IsName text h = rw (le-leb 1 (length text) h.some, le-leb (length t
 
 -- a text that passes the test is a name
 pub IsName-from_is_name : (text : List ℕ) → is_name text ≡ true → IsName text
-IsName-from_is_name text h =
-    let (sized, plain) = and_parts (nat_le 1 (length text) && nat_le (length text) 32) (list_all is_name_byte text) h in
+IsName-from_is_name text is_true =
+    let (sized, plain) = and_parts (nat_le 1 (length text) && nat_le (length text) 32)
+    (list_all is_name_byte text) is_true in
     let (some, short) = and_parts (nat_le 1 (length text)) (nat_le (length text) 32) sized in
     record {
       some = leb-true 1 (length text) some;
@@ -26,12 +27,12 @@ IsName-from_is_name text h =
 
 -- a text is taken as a name if it passes the test for names
 if_name : (text : List ℕ) (b : Bool) → is_name text ≡ b → name_if text ≡ cond b (Some text) None
-if_name text b e = rw e
+if_name text b is = rw is
 
 -- a text that isn't a name isn't taken as one
 not_name : (text : List ℕ) (b : Bool) → is_name text ≡ b → ¬ IsName text → name_if text ≡ None
-not_name text true e h = absurd (h (IsName-from_is_name text e))
-not_name text false e h = if_name text false e
+not_name text true is h = absurd (h (IsName-from_is_name text is))
+not_name text false is h = if_name text false is
 
 -- what `Name::new` finds, by its contract, is the text if it is a name, and otherwise nothing
 pub named : (found : Option (List ℕ)) (text : List ℕ) → IfSome found (λ name. name ≡ text) →

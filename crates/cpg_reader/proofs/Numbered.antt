@@ -32,13 +32,13 @@ AreApart names = AllPairs (λ a b. a ≢ b) names
 
 -- the test tells different names apart
 differ : (x y : List ℕ) → x ≢ y → bytes_eq x y ≡ false
-differ x y h = false_from_ne_true (bytes_eq x y) (λ t. h ((bytes_eq-Decides x y).0 t))
+differ x y x_differ = false_from_ne_true (bytes_eq x y) (λ t. x_differ ((bytes_eq-Decides x y).0 t))
 
 -- the element at a place of a list stays there if another list is appended
 at_left : (xs ys : List (List ℕ)) (k : ℕ) (d : List ℕ) → k < length xs → get_or (xs ++ ys) k d ≡ get_or xs k d
-at_left [] ys k d l = absurd (omega arith)
-at_left (x ∷ xs) ys zero d l = refl
-at_left (x ∷ xs) ys (suc k) d l = at_left xs ys k d (omega arith)
+at_left [] ys k d below = absurd (omega arith)
+at_left (x ∷ xs) ys zero d below = refl
+at_left (x ∷ xs) ys (suc k) d below = at_left xs ys k d (omega arith)
 
 -- an element between two lists has the length of the first as its place
 at_middle : (xs ys : List (List ℕ)) (y d : List ℕ) → get_or (xs ++ y ∷ ys) (length xs) d ≡ y
@@ -72,13 +72,13 @@ apart-names table key names h = apart_from-pairs table key 0 [] names h
 number_at : (names : List (List ℕ)) (place : Place) (n : ℕ) → AreApart names → n < length names →
     number_of names place (get_or names n []) ≡ Ok n
 unfolding number_of
-number_at names place n h l =
+number_at names place n h below =
     let passes : List ℕ → Bool = bytes_eq (get_or names n []) in
-    let at : position_or_len passes names ≡ n = position_or_len_is passes names n [] (omega (arith, l))
-    (λ k lt. differ (get_or names n []) (get_or names k []) (λ same. h k n [] lt l (sym same)))
+    let at : position_or_len passes names ≡ n = position_or_len_is passes names n [] (omega (arith, below))
+    (λ k lt. differ (get_or names n []) (get_or names k []) (λ same. h k n [] lt below (sym same)))
     (λ m. (bytes_eq-Decides (get_or names n []) (get_or names n [])).1 refl) in
     let found : position passes names ≡ Some n =
-    cond-true _ _ _ (lt-ltb (position_or_len passes names) (length names) (omega (arith, at, l))) ∙ ap Some at in
+    cond-true _ _ _ (lt-ltb (position_or_len passes names) (length names) (omega (arith, at, below))) ∙ ap Some at in
     rw found refl
 
 -- if a step gives each element back, the steps for all give the list back
@@ -102,36 +102,38 @@ number_value (Err e) = 0
 -- two numbers m and n that have one name are equal, as both are the number of that name
 only : (names : List (List ℕ)) → AreApart names → (m n : ℕ) → m < length names → n < length names →
     get_or names m [] ≡ get_or names n [] → m ≡ n
-only names h m n l k e =
+only names h m n m_below n_below is =
     let somewhere : Place = record { table = places.Slot; index = 0; key = keys.Node } in
     ap number_value
-    (sym (number_at names somewhere m h l) ∙ ap (number_of names somewhere) e ∙ number_at names somewhere n h k)
+    (sym (number_at names somewhere m h m_below) ∙ ap (number_of names somewhere) is ∙
+    number_at names somewhere n h n_below)
 
 -- given names that differ
 module _ (names : List (List ℕ)) (names_differ : AreApart names) where
   -- the names of an order's numbers differ, as the numbers do
   order_names_apart : (o : List ℕ) → IsOrderWithin (length names) o → AreApart (map (name_in names) o)
-  order_names_apart o h i j d lt l same =
-      let l' : j < length o = omega (arith, l, length-map o (name_in names)) in
-      let i' : i < length o = omega (arith, lt, l') in
-      h.once i j 0 lt l' (only names names_differ (get_or o i 0) (get_or o j 0) (h.there i 0 i') (h.there j 0 l')
-      (sym (get_or-map (name_in names) o i 0 d i') ∙ same ∙ get_or-map (name_in names) o j 0 d l'))
+  order_names_apart o within i j d lt j_inside same =
+      let j_below : j < length o = omega (arith, j_inside, length-map o (name_in names)) in
+      let i_below : i < length o = omega (arith, lt, j_below) in
+      within.once i j 0 lt j_below (only names names_differ (get_or o i 0) (get_or o j 0) (within.there i 0 i_below)
+      (within.there j 0 j_below)
+      (sym (get_or-map (name_in names) o i 0 d i_below) ∙ same ∙ get_or-map (name_in names) o j 0 d j_below))
 
   -- the names of an order within the limits aren't refused as double; without an order there are none
   order_differs : (order : Option (List ℕ)) → IfSome order (IsOrderWithin (length names)) →
       order_apart (option_map (map (name_in names)) order) ≡ Ok tt
   unfolding order_apart
-  order_differs None h = refl
-  order_differs (Some o) h = apart-names places.Top keys.Order (map (name_in names) o) (order_names_apart o h)
+  order_differs None within = refl
+  order_differs (Some o) within = apart-names places.Top keys.Order (map (name_in names) o) (order_names_apart o within)
 
   -- the names of an order are read as its numbers
   order_back : (order : Option (List ℕ)) → IfSome order (IsOrderWithin (length names)) →
       order_of names (option_map (map (name_in names)) order) ≡ Ok order
   unfolding order_of
-  order_back None h = refl
-  order_back (Some o) h =
+  order_back None within = refl
+  order_back (Some o) within =
       rw (each_back (ordered names) (name_in names) (λ p. p < length names)
-      (λ i p l. number_at names _ p names_differ l) 0 o (all_by_recursion _ o h.there)) refl
+      (λ i p below. number_at names _ p names_differ below) 0 o (all_by_recursion _ o within.there)) refl
 
 -- given a graph within the limits
 module _ (g : Graph) (limited : IsWithinLimits g) where
@@ -144,8 +146,8 @@ module _ (g : Graph) (limited : IsWithinLimits g) where
   process_by : (i : ℕ) (p : Process) (own : Option ℕ) → p.deadline ≡ own → IsProcessWithin (length g.nodes) p →
       process_of g.nodes i (raw_process g.nodes p) ≡ Ok (record p { deadline = own })
   unfolding process_of
-  process_by i p None e h = rw (number_at g.nodes _ p.node limited.node_names h.node, e) refl
-  process_by i p (Some d) e h = rw (number_at g.nodes _ p.node limited.node_names h.node, e) refl
+  process_by i p None is h = rw (number_at g.nodes _ p.node limited.node_names h.node, is) refl
+  process_by i p (Some d) is h = rw (number_at g.nodes _ p.node limited.node_names h.node, is) refl
 
   -- the names of the processes differ
   names_apart : AreApart (names_of g.processes)
@@ -154,17 +156,18 @@ module _ (g : Graph) (limited : IsWithinLimits g) where
 
   -- The names of the slots' nodes differ: two slots have different nodes, and these have different names.
   slots_apart : AreApart (map (λ (s : Slot). get_or g.nodes s.node []) g.slots)
-  slots_apart i j d lt l same =
-      let l' : j < length g.slots = omega (arith, l, length-map g.slots (λ (s : Slot). get_or g.nodes s.node [])) in
+  slots_apart i j d lt j_inside same =
+      let j_below : j < length g.slots =
+      omega (arith, j_inside, length-map g.slots (λ (s : Slot). get_or g.nodes s.node [])) in
       let none : Slot = record { node = 0; length = 0; bytes = 0 } in
-      let a = get_or-map (λ (s : Slot). get_or g.nodes s.node []) g.slots i none d (omega (arith, lt, l')) in
-      let b = get_or-map (λ (s : Slot). get_or g.nodes s.node []) g.slots j none d l' in
-      let m = (get_or g.slots i none).node in
-      let n = (get_or g.slots j none).node in
-      let equal : get_or g.nodes m [] ≡ get_or g.nodes n [] = sym a ∙ same ∙ b in
-      let mi = (limited.slots i none (omega (arith, lt, l'))).node in
-      let ni = (limited.slots j none l').node in
-      limited.own_slots i j none lt l' (only g.nodes limited.node_names m n mi ni equal)
+      let name_i = get_or-map (λ (s : Slot). get_or g.nodes s.node []) g.slots i none d (omega (arith, lt, j_below)) in
+      let name_j = get_or-map (λ (s : Slot). get_or g.nodes s.node []) g.slots j none d j_below in
+      let node_i = (get_or g.slots i none).node in
+      let node_j = (get_or g.slots j none).node in
+      let equal : get_or g.nodes node_i [] ≡ get_or g.nodes node_j [] = sym name_i ∙ same ∙ name_j in
+      let i_within = (limited.slots i none (omega (arith, lt, j_below))).node in
+      let j_within = (limited.slots j none j_below).node in
+      limited.own_slots i j none lt j_below (only g.nodes limited.node_names node_i node_j i_within j_within equal)
 
   -- a written edge is read as the edge
   edge_back : (i : ℕ) (e : Edge) → IsEdgeWithin (process_count g) e →

@@ -26,19 +26,19 @@ all_by_recursion P (x ∷ xs) h = (h 0 x (omega arith), all_by_recursion P xs (�
 
 -- a lawful name is taken as itself
 pub name_read : (text : List ℕ) → IsName text → name_if text ≡ Some text
-name_read text h = rw (is_name-from_IsName text h) refl
+name_read text is_name = rw (is_name-from_IsName text is_name) refl
 
 -- the written table of a node is read as its name
 node_read : (i : ℕ) (name : List ℕ) → IsName name →
     read_node (record { table = places.Node; index = i; members = node_members name }) ≡ Ok name
 unfolding read_node read_name optional only
-node_read i name h = rw (name_read name h) refl
+node_read i name is_name = rw (name_read name is_name) refl
 
 -- the written table of a slot is read as the slot
 slot_read : (nodes : List (List ℕ)) (i : ℕ) (s : Slot) → IsName (get_or nodes s.node []) →
     read_slot (record { table = places.Slot; index = i; members = slot_members nodes s }) ≡ Ok (raw_slot nodes s)
 unfolding read_slot read_name read_integer optional only
-slot_read nodes i s h = rw (name_read (get_or nodes s.node []) h) refl
+slot_read nodes i s is_name = rw (name_read (get_or nodes s.node []) is_name) refl
 
 -- a process and its node have lawful names
 pub record IsCalled (nodes : List (List ℕ)) (p : Process) : Type 0 where
@@ -52,8 +52,8 @@ process_by : (nodes : List (List ℕ)) (i : ℕ) (p : Process) (own : Option ℕ
     → read_process (record { table = places.Process; index = i; members = process_members nodes p })
     ≡ Ok (raw_process nodes p)
 unfolding read_process read_name read_integer integer_or flag_or optional only
-process_by nodes i p None e h = rw (e, name_read p.name h.name, name_read (get_or nodes p.node []) h.node) refl
-process_by nodes i p (Some d) e h = rw (e, name_read p.name h.name, name_read (get_or nodes p.node []) h.node) refl
+process_by nodes i p None is h = rw (is, name_read p.name h.name, name_read (get_or nodes p.node []) h.node) refl
+process_by nodes i p (Some d) is h = rw (is, name_read p.name h.name, name_read (get_or nodes p.node []) h.node) refl
 
 -- both ends of an edge have lawful names
 pub record IsJoined (names : List (List ℕ)) (e : Edge) : Type 0 where

@@ -30,8 +30,8 @@ tables_flat f h (x ∷ xs) = omega (arith, h x, tables_flat f h xs)
 -- the table of a process has no table in it
 process_flat : (nodes : List (List ℕ)) (p : Process) (own : Option ℕ) → p.deadline ≡ own →
     members_depth (process_members nodes p) ≤ 0
-process_flat nodes p None e = rw e (omega arith)
-process_flat nodes p (Some d) e = rw e (omega arith)
+process_flat nodes p None is = rw is (omega arith)
+process_flat nodes p (Some d) is = rw is (omega arith)
 
 -- the table of an edge has no tables in it
 edge_flat : (ps : List Process) (e : Edge) (when : Option Bool) → e.when ≡ when → members_depth (edge_members ps e) ≤ 0
@@ -68,11 +68,11 @@ module _ (g : Graph) (limited : IsWithinLimits g) (nodes : All IsName g.nodes)
     (processes : All (λ p. IsName p.name) g.processes) where
   -- each node has a lawful name
   node_named : (n : ℕ) → n < length g.nodes → IsName (get_or g.nodes n [])
-  node_named n l = nodes n [] l
+  node_named n below = nodes n [] below
 
   -- each process has a lawful name
   process_named : (n : ℕ) → n < length g.processes → IsName (get_or (names_of g.processes) n [])
-  process_named n l =
+  process_named n below =
       let none : Process = record {
         name = [];
         node = 0;
@@ -86,7 +86,7 @@ module _ (g : Graph) (limited : IsWithinLimits g) (nodes : All IsName g.nodes)
         release = 0;
         deadline = None;
       } in
-      subst IsName (sym (get_or-map (λ (p : Process). p.name) g.processes n none [] l)) (processes n none l)
+      subst IsName (sym (get_or-map (λ (p : Process). p.name) g.processes n none [] below)) (processes n none below)
 
   -- the names of an order within the limits are names
   order_named : (order : Option (List ℕ)) → IfSome order (IsOrderWithin (length g.processes)) →

@@ -74,24 +74,24 @@ module _ (es : List RawEdge) (i : ℕ) (e : RawEdge) (whole : List (List ℕ)) (
       k.now ≡ e.from →
       new ≡ insert_key same_text ks k
       → whole ≡ different (texts ks) (sources (drop i es)) → whole ≡ different (texts new) (sources (drop (i + 1) es))
-  more_sources h is new k conditional named keys so_far =
-      so_far ∙ rw (drop-here es i e h is) (source_noted e (drop (i + 1) es) ks new k conditional named keys)
+  more_sources below is new k conditional named keys so_far =
+      so_far ∙ rw (drop-here es i e below is) (source_noted e (drop (i + 1) es) ks new k conditional named keys)
 
   -- if e has no `when`, nothing is added
   pub same_sources : i < length es → e ≡ get_or es i e → is_some e.when ≡ false
       → whole ≡ different (texts ks) (sources (drop i es)) → whole ≡ different (texts ks) (sources (drop (i + 1) es))
-  same_sources h is simple so_far =
-      so_far ∙ rw (drop-here es i e h is) (simple_edge e (drop (i + 1) es) (texts ks) simple)
+  same_sources below is simple so_far =
+      so_far ∙ rw (drop-here es i e below is) (simple_edge e (drop (i + 1) es) (texts ks) simple)
 
 -- if an insertion answers that it added nothing, the name was there: b says whether it was
 pub was_there : (b : Bool) → false ≡ not b → b ≡ true
-was_there true e = refl
-was_there false e = cc
+was_there true is = refl
+was_there false is = cc
 
 -- if an insertion answers that it added the name, it wasn't there: b says whether it was
 pub was_new : (b : Bool) → true ≡ not b → b ≡ false
-was_new false e = refl
-was_new true e = cc
+was_new false is = refl
+was_new true is = cc
 
 module _ (ks : Texts) (k : Bor (List ℕ)) (new : Texts) (keys : new ≡ insert_key same_text ks k)
     (e : list_any (same_text k) ks ≡ false) where
@@ -103,8 +103,9 @@ module _ (ks : Texts) (k : Bor (List ℕ)) (new : Texts) (keys : new ≡ insert_
   pub seen_more : {T : Type 0} (named : T → List ℕ) (xs : List T) (i : ℕ) (x : T) → i < length xs → x ≡ get_or xs i x →
       k.now ≡ named x
       → texts ks ≡ map named (take i xs) → texts new ≡ map named (take (i + 1) xs)
-  seen_more named xs i x h is name seen =
-      let front : take (i + 1) xs ≡ take i xs ++ x ∷ [] = take_more xs i x h ∙ ap (λ y. take i xs ++ y ∷ []) (sym is) in
+  seen_more named xs i x below is name seen =
+      let front : take (i + 1) xs ≡ take i xs ++ x ∷ [] = take_more xs i x below ∙ ap (λ y. take i xs ++ y ∷ [])
+      (sym is) in
       noted ∙ rw (front, map_push named (take i xs) x, ← seen, ← name) refl
 
 -- given the place at which a double name is shown
@@ -114,7 +115,7 @@ module _ (table : Table) (key : Key) where
       list_any (bytes_eq name) seen ≡ b
       → apart_from table key i seen (name ∷ names)
       ≡ cond b (Err (DoubleName (name_place table i key))) (apart_from table key (i + 1) (seen ++ name ∷ []) names)
-  apart-test i seen name names b e = rw e refl
+  apart-test i seen name names b is = rw is refl
 
   -- given elements with names, the element x at place i, its name k, and the names ks that were seen before it; `whole`
   -- is what the test of all names comes to
@@ -124,8 +125,8 @@ module _ (table : Table) (key : Key) where
     pub is_double : i < length xs → x ≡ get_or xs i x → k.now ≡ named x → list_any (same_text k) ks ≡ true
         → whole ≡ apart_from table key i (texts ks) (map named (drop i xs)) →
         whole ≡ Err (DoubleName (name_place table i key))
-    is_double h is name e so_far = so_far ∙ rw (drop-here xs i x h is, ← name)
-        (apart-test i (texts ks) k.now (map named (drop (i + 1) xs)) true (sym (any-texts k.now ks) ∙ e))
+    is_double below is name is_true so_far = so_far ∙ rw (drop-here xs i x below is, ← name)
+        (apart-test i (texts ks) k.now (map named (drop (i + 1) xs)) true (sym (any-texts k.now ks) ∙ is_true))
 
     -- if k is new, the test goes on with the names after it
     pub is_new : i < length xs → x ≡ get_or xs i x → k.now ≡ named x → list_any (same_text k) ks ≡ false →
@@ -133,7 +134,8 @@ module _ (table : Table) (key : Key) where
         new ≡ insert_key same_text ks k
         → whole ≡ apart_from table key i (texts ks) (map named (drop i xs)) →
         whole ≡ apart_from table key (i + 1) (texts new) (map named (drop (i + 1) xs))
-    is_new h is name e new keys so_far = so_far
-        ∙ rw (drop-here xs i x h is, ← name)
-        (apart-test i (texts ks) k.now (map named (drop (i + 1) xs)) false (sym (any-texts k.now ks) ∙ e))
-        ∙ ap (λ seen. apart_from table key (i + 1) seen (map named (drop (i + 1) xs))) (sym (noted ks k new keys e))
+    is_new below is name is_false new keys so_far = so_far
+        ∙ rw (drop-here xs i x below is, ← name)
+        (apart-test i (texts ks) k.now (map named (drop (i + 1) xs)) false (sym (any-texts k.now ks) ∙ is_false))
+        ∙ ap (λ seen. apart_from table key (i + 1) seen (map named (drop (i + 1) xs)))
+        (sym (noted ks k new keys is_false))

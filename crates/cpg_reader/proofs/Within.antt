@@ -46,8 +46,8 @@ record ShowsSlot (nodes : List (List ℕ)) (i : ℕ) (raw : RawSlot) (s : Slot) 
 shows_slot : (nodes : List (List ℕ)) (i : ℕ) (raw : RawSlot) (s : Slot) → slot_of nodes i raw ≡ Ok s →
     ShowsSlot nodes i raw s
 unfolding slot_of
-shows_slot nodes i raw s h =
-    let (node, found, rest) = bind-parts (number_of nodes (place tables.Slot i Node) raw.node) _ s h in
+shows_slot nodes i raw s i_is =
+    let (node, found, rest) = bind-parts (number_of nodes (place tables.Slot i Node) raw.node) _ s i_is in
     let is = same_ok _ s rest in
     record {
       node = found ∙ ap (λ (x : Slot). Ok x.node) is;
@@ -74,8 +74,8 @@ record ShowsProcess (nodes : List (List ℕ)) (i : ℕ) (raw : RawProcess) (p : 
 shows_process : (nodes : List (List ℕ)) (i : ℕ) (raw : RawProcess) (p : Process) → process_of nodes i raw ≡ Ok p →
     ShowsProcess nodes i raw p
 unfolding process_of
-shows_process nodes i raw p h =
-    let (node, found, rest) = bind-parts (number_of nodes (place tables.Process i Node) raw.node) _ p h in
+shows_process nodes i raw p i_is =
+    let (node, found, rest) = bind-parts (number_of nodes (place tables.Process i Node) raw.node) _ p i_is in
     let is = same_ok _ p rest in
     record {
       name = ap (λ (x : Process). x.name) is;
@@ -104,8 +104,8 @@ record ShowsEdge (processes : List (List ℕ)) (i : ℕ) (raw : RawEdge) (e : Ed
 shows_edge : (processes : List (List ℕ)) (i : ℕ) (raw : RawEdge) (e : Edge) → edge_of processes i raw ≡ Ok e →
     ShowsEdge processes i raw e
 unfolding edge_of
-shows_edge processes i raw e h =
-    let (from, found, next) = bind-parts (number_of processes (place tables.Edge i From) raw.from) _ e h in
+shows_edge processes i raw e i_is =
+    let (from, found, next) = bind-parts (number_of processes (place tables.Edge i From) raw.from) _ e i_is in
     let (to, met, rest) = bind-parts (number_of processes (place tables.Edge i To) raw.to) _ e next in
     let is = same_ok _ e rest in
     record {
@@ -162,8 +162,8 @@ record AreParts (g : RawGraph) (ss : List Slot) (ps : List Process) (es : List E
 -- a process's own deadline, which counts as 0 if it is absent, is within the limit as a natural number too
 deadline_within : (own : Option ℤ) (most : ℕ) → natural (unwrap_or own (pos 0)) ≤ most →
     IfSome (option_map natural own) (λ d. d ≤ most)
-deadline_within (Some d) most h = h
-deadline_within None most h = tt
+deadline_within (Some d) most at_most = at_most
+deadline_within None most at_most = tt
 
 -- a slot for places past the end of the list
 some_slot : RawSlot
@@ -210,20 +210,22 @@ module _ (g : RawGraph) (ss : List Slot) (ps : List Process) (es : List Edge) (o
 
   -- each slot of the graph has what the document says of it
   slot_there : (k : ℕ) (d : Slot) → k < length ss → ShowsSlot g.nodes k (get_or g.slots k some_slot) (get_or ss k d)
-  slot_there k d l = shows_slot g.nodes k _ _
-      (each-at (slot_of g.nodes) 0 g.slots ss parts.slots k k some_slot d (zero-add k) (omega (arith, l, slot_count)))
+  slot_there k d below = shows_slot g.nodes k _ _
+      (each-at (slot_of g.nodes) 0 g.slots ss parts.slots k k some_slot d (zero-add k)
+      (omega (arith, below, slot_count)))
 
   -- each process of the graph has what the document says of it
   process_there : (k : ℕ) (d : Process) → k < length ps →
       ShowsProcess g.nodes k (get_or g.processes k some_process) (get_or ps k d)
-  process_there k d l = shows_process g.nodes k _ _ (each-at (process_of g.nodes) 0 g.processes ps parts.processes k k
-      some_process d (zero-add k) (omega (arith, l, process_count)))
+  process_there k d below = shows_process g.nodes k _ _ (each-at (process_of g.nodes)
+      0 g.processes ps parts.processes k k
+      some_process d (zero-add k) (omega (arith, below, process_count)))
 
   -- each edge of the graph has what the document says of it
   edge_there : (k : ℕ) (d : Edge) → k < length es →
       ShowsEdge (process_names g.processes) k (get_or g.edges k some_edge) (get_or es k d)
-  edge_there k d l = shows_edge (process_names g.processes) k _ _ (each-at (edge_of (process_names g.processes)) 0
-      g.edges es parts.edges k k some_edge d (zero-add k) (omega (arith, l, edge_count)))
+  edge_there k d below = shows_edge (process_names g.processes) k _ _ (each-at (edge_of (process_names g.processes)) 0
+      g.edges es parts.edges k k some_edge d (zero-add k) (omega (arith, below, edge_count)))
 
   -- each slot is within the limits, as its numbers are in their ranges in the document
   slots_within : All (IsSlotWithin (length g.nodes)) ss
@@ -271,8 +273,8 @@ module _ (g : RawGraph) (ss : List Slot) (ps : List Process) (es : List Edge) (o
 
   -- the name of a process in the document is its name in the graph
   named : (k : ℕ) (d : Process) → k < length ps → get_or (process_names g.processes) k [] ≡ (get_or ps k d).name
-  named k d l =
-      get_or-map _ g.processes k some_process [] (omega (arith, l, process_count)) ∙ (process_there k d l).name
+  named k d below =
+      get_or-map _ g.processes k some_process [] (omega (arith, below, process_count)) ∙ (process_there k d below).name
 
   -- the names of the graph's processes differ, as they do in the document
   names_differ : AllPairs (λ p q. p.name ≢ q.name) ps
@@ -282,13 +284,14 @@ module _ (g : RawGraph) (ss : List Slot) (ps : List Process) (es : List Edge) (o
 
   -- the nodes of the graph's slots differ, as their names do in the document
   slots_differ : AllPairs (λ s t. s.node ≢ t.node) ss
-  slots_differ i j d lt l e =
-      let a = number-is g.nodes _ _ _ (slot_there i d (omega (arith, lt, l))).node [] in
-      let b = number-is g.nodes _ _ _ (slot_there j d l).node [] in
-      let name_i = get_or-map (λ (s : RawSlot). s.node) g.slots i some_slot [] (omega (arith, lt, l, slot_count)) in
-      let name_j = get_or-map (λ (s : RawSlot). s.node) g.slots j some_slot [] (omega (arith, l, slot_count)) in
-      let same = sym a.1 ∙ ap (λ n. get_or g.nodes n []) e ∙ b.1 in
-      parts.slots_apart i j [] lt (omega (arith, l, slot_count, length-map g.slots (λ s. s.node)))
+  slots_differ i j d lt j_inside same_node =
+      let node_i = number-is g.nodes _ _ _ (slot_there i d (omega (arith, lt, j_inside))).node [] in
+      let node_j = number-is g.nodes _ _ _ (slot_there j d j_inside).node [] in
+      let name_i = get_or-map (λ (s : RawSlot). s.node) g.slots i some_slot []
+      (omega (arith, lt, j_inside, slot_count)) in
+      let name_j = get_or-map (λ (s : RawSlot). s.node) g.slots j some_slot [] (omega (arith, j_inside, slot_count)) in
+      let same = sym node_i.1 ∙ ap (λ n. get_or g.nodes n []) same_node ∙ node_j.1 in
+      parts.slots_apart i j [] lt (omega (arith, j_inside, slot_count, length-map g.slots (λ s. s.node)))
       (name_i ∙ same ∙ sym name_j)
 
   -- the processes with a conditional output
@@ -302,31 +305,31 @@ module _ (g : RawGraph) (ss : List Slot) (ps : List Process) (es : List Edge) (o
   -- a conditional process is one of the graph
   conditional_below : (p : ℕ) → Contains conditional p → p < length ps
   unfolding conditional
-  conditional_below p c = numbers-Contains (length ps) p
-      (Contains-filter_parts (has_conditional_output es) (numbers_below (length ps)) p c).0
+  conditional_below p among = numbers-Contains (length ps) p
+      (Contains-filter_parts (has_conditional_output es) (numbers_below (length ps)) p among).0
 
   -- the names of the conditional processes differ, as these are different processes
   conditional_names_differ : AllPairs (λ a b. a ≢ b) (map name_of conditional)
   unfolding conditional name_of
-  conditional_names_differ i j d lt l e =
-      let l' : j < length conditional = omega (arith, l, length-map conditional name_of) in
-      let at_i = get_or-map name_of conditional i 0 d (omega (arith, lt, l')) in
-      let at_j = get_or-map name_of conditional j 0 d l' in
+  conditional_names_differ i j d lt j_inside same_name =
+      let j_below : j < length conditional = omega (arith, j_inside, length-map conditional name_of) in
+      let at_i = get_or-map name_of conditional i 0 d (omega (arith, lt, j_below)) in
+      let at_j = get_or-map name_of conditional j 0 d j_below in
       -- the process at i is below that at j
       let rise = AllPairs-filter (λ x y. x < y) (has_conditional_output es) (numbers_below (length ps))
-      (AllPairs-from_increasing (numbers_below (length ps)) (numbers_rise (length ps))) i j 0 lt l' in
+      (AllPairs-from_increasing (numbers_below (length ps)) (numbers_rise (length ps))) i j 0 lt j_below in
       parts.processes_apart (get_or conditional i 0) (get_or conditional j 0) [] rise
-      (omega (arith, name_count, conditional_below (get_or conditional j 0) (Contains-get_or conditional j 0 l')))
-      (sym at_i ∙ e ∙ at_j)
+      (omega (arith, name_count, conditional_below (get_or conditional j 0) (Contains-get_or conditional j 0 j_below)))
+      (sym at_i ∙ same_name ∙ at_j)
 
   -- The name of a conditional process is the source of a conditional edge in the document: that from which its
   -- conditional edge was read.
   conditional_named : (p : ℕ) → Contains conditional p → Contains (sources g.edges) (name_of p)
   unfolding conditional name_of
-  conditional_named p c =
+  conditional_named p among =
       -- edge e, at place k, is a conditional output of p
       let (e, (k, l, here), test) = list_any_parts (is_conditional_output p) es
-      (Contains-filter_parts (has_conditional_output es) (numbers_below (length ps)) p c).1 in
+      (Contains-filter_parts (has_conditional_output es) (numbers_below (length ps)) p among).1 in
       let (from, taken) = and_parts (e.from == p) (is_some e.when) test in
       -- it was read from the edge at place k of the document, which has its condition and the name of its source
       let shown = edge_there k e l in
@@ -384,8 +387,8 @@ module _ (g : RawGraph) (ss : List Slot) (ps : List Process) (es : List Edge) (o
 -- its parts and that no name is double.
 pub graph-within : (g : RawGraph) (graph : Graph) → limits g ≡ Ok tt → graph_of g ≡ Ok graph → IsWithinLimits graph
 unfolding graph_of resolved
-graph-within g graph limited h =
-    let (_, nodes, h1) = then-parts _ _ graph h in
+graph-within g graph limited is =
+    let (_, nodes, h1) = then-parts _ _ graph is in
     let (_, own_slots, h2) = then-parts _ _ graph h1 in
     let (_, names, h3) = then-parts _ _ graph h2 in
     let (_, differs, h4) = then-parts _ _ graph h3 in

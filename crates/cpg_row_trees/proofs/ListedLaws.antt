@@ -124,8 +124,8 @@ module _ (k : ℕ) (space side : Space) (v cut : ℕ) (there : v < 256) (ranges 
           (sum_by (narrowed k space) (numbers_below 256)) ((sum_by (narrowed k space) (numbers_below 256)) + 1)
           there long reached open_ more is goes s few lies);
       come = λ s few all low high.
-          let inside : number_of s v ≤ cut = omega (arith, high, high_is_cut) in
-          goes s (own.come s few all (omega (arith, low, low_as_before)) (omega (arith, inside, below_high))) inside;
+          let at_most : number_of s v ≤ cut = omega (arith, high, high_is_cut) in
+          goes s (own.come s few all (omega (arith, low, low_as_before)) (omega (arith, at_most, below_high))) at_most;
     }
 
   -- given: the side above the cut has all scenarios of the space that are above the cut
@@ -181,4 +181,4 @@ module _ (cubes : List (List Literal)) (k : ℕ) (space under over : Space) (fro
 
 -- what holds for any answer that is there holds for this one
 pub at_some : (P : ℕ → Type 0) (o : Option ℕ) (to : ℕ) → o ≡ Some to → IfSome o P → P to
-at_some P o to is h = subst (λ (r : Option ℕ). IfSome r P) is h
+at_some P o to is if_some = subst (λ (r : Option ℕ). IfSome r P) is if_some

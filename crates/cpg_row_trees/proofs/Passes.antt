@@ -20,7 +20,7 @@ module _ {T : Type 0} (fact : T → Scenario → Type 0) (space : Space) (v cut 
     (is : n ≡ Fork v cut below above) where
   -- what holds of the value of a side holds of the fork's
   from_side : (s : Scenario) (x y : T) → y ≡ x → fact x s → fact y s
-  from_side s x y e h = subst (λ (z : T). fact z s) (sym e) h
+  from_side s x y same h = subst (λ (z : T). fact z s) (sym same) h
 
   -- if no scenario of the space is below the cut, what holds above it holds on the fork
   pub holds_above : HoldsInSpace fact space above → ((s : Scenario) → IsInSpace space s → cut < number_of s v) →
@@ -43,9 +43,9 @@ module _ {T : Type 0} (fact : T → Scenario → Type 0) (space : Space) (v cut 
   -- each scenario finds the value of the side of the cut to which it goes
   holds_fork of_below of_above =
       subst (λ (m : TreeNode T). HoldsInSpace fact space m) (sym is) (λ s lies. elim (cases_lt cut (number_of s v)) [
-        | inl h ↦
-            from_side s (value_at above s) (value_at (Fork v cut below above) s) (value_above v cut below above s h)
-            (of_above s lies h)
+        | inl less ↦
+            from_side s (value_at above s) (value_at (Fork v cut below above) s) (value_above v cut below above s less)
+            (of_above s lies less)
         | inr h ↦
             from_side s (value_at below s) (value_at (Fork v cut below above) s) (value_below v cut below above s h)
             (of_below s lies h)

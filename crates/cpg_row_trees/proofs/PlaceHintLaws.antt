@@ -36,8 +36,9 @@ module _ (fits : Scenario → Type 0) (place : ℕ) where
   kept_in hints e is =
       let pushed = sym (map_push (λ (e : PlaceHint). e.place) hints e) in
       record {
-        earlier = λ i c.
-            subst (λ (xs : List ℕ). Contains xs i) pushed (Contains-append_left (places_of hints) (e.place ∷ []) i c);
+        earlier = λ i there.
+            subst (λ (xs : List ℕ). Contains xs i) pushed
+            (Contains-append_left (places_of hints) (e.place ∷ []) i there);
         this = λ s h. subst (λ (x : ℕ). Contains (places_of (hints ++ e ∷ [])) x) is
             (subst (λ (xs : List ℕ). Contains xs e.place) pushed (Contains-push (places_of hints) e.place));
       }
@@ -58,7 +59,7 @@ places_more hints k d within =
 module _ (cubes : List (List Literal)) (fits : Scenario → Type 0) where
   -- of no places, all are kept
   pub keeps_none : (kept : List ℕ) → KeepsWhere cubes fits [] kept
-  keeps_none kept s i lies c m = absurd (Contains-nil i c)
+  keeps_none kept s i lies there m = absurd (Contains-nil i there)
 
   -- with one place more that is kept, all of one place more are kept
   pub keeps_one : (place : ℕ) (places : List ℕ) (old new : List PlaceHint) →
@@ -95,8 +96,8 @@ module _ (cubes : List (List Literal)) (fits : Scenario → Type 0) (places kept
     (keeps : KeepsWhere cubes fits places kept) (s : Scenario) (lies : fits s) where
   -- the place of a match among those kept is that of a match among all
   widen_place : (x : Option ℕ) → IsMatchAmong cubes kept x s → IsMatchAmong cubes places x s
-  widen_place None h = λ j c m. h j (keeps s j lies c m) m
-  widen_place (Some i) h = record { is = h.is; only = λ j c m. h.only j (keeps s j lies c m) m }
+  widen_place None is_match = λ j c m. is_match j (keeps s j lies c m) m
+  widen_place (Some i) is_match = record { is = is_match.is; only = λ j c m. is_match.only j (keeps s j lies c m) m }
 
 -- given: a fork whose sides have the matches among the places that are kept there
 -- `fork`: r is the fork of the two trees. `keeps_below`, `keeps_above`: each side keeps the places that matter there.
@@ -113,13 +114,14 @@ module _ (cubes : List (List Literal)) (space one two : Space) (places low high 
   found_parted : HoldsInSpace (IsMatchAmong cubes places) space r
   -- a scenario finds the match among the places kept on its side, and no place that was left out there matches it
   found_parted s lies = elim (cases_lt cut (number_of s v)) [
-    | inl h ↦ let l = goes_two s lies h in
-        subst (λ (x : Option ℕ). IsMatchAmong cubes places x s) (sym (fork.value_above s h))
-        (widen_place cubes (λ s. IsInSpace space s × (cut < number_of s v)) places high keeps_above s (lies, h)
-        (value_at above s) (of_two s l))
-    | inr h ↦ let l = goes_one s lies h in
-        subst (λ (x : Option ℕ). IsMatchAmong cubes places x s) (sym (fork.value_below s h))
-        (widen_place cubes (λ s. number_of s v ≤ cut) places low keeps_below s h (value_at below s) (of_one s l))
+    | inl is_above ↦ let lies_above = goes_two s lies is_above in
+        subst (λ (x : Option ℕ). IsMatchAmong cubes places x s) (sym (fork.value_above s is_above))
+        (widen_place cubes (λ s. IsInSpace space s × (cut < number_of s v)) places high keeps_above s (lies, is_above)
+        (value_at above s) (of_two s lies_above))
+    | inr is_below ↦ let lies_below = goes_one s lies is_below in
+        subst (λ (x : Option ℕ). IsMatchAmong cubes places x s) (sym (fork.value_below s is_below))
+        (widen_place cubes (λ s. number_of s v ≤ cut) places low keeps_below s is_below
+        (value_at below s) (of_one s lies_below))
   ]
 
 -- a leaf that has the match among the places is their tree
@@ -131,13 +133,14 @@ place_tree_leaf cubes space places x old new found added fewer =
     record { found = (Leaf x, added, found); fewer = fewer }
 
 -- given: a fork whose sides have trees of the places kept there, added one after the other
--- `forks`, `as_full`: the last step puts a fork before the two trees. `kept`, `less`: `rest` has the items of `old`.
+-- `forks`, `as_full`: the last step makes a fork of the two trees. `kept`, `no_more`: `rest` has the items of `old`,
+-- and no more left to spend.
 -- `first`, `second`: where the trees begin. `keeps_below`, `keeps_above`: each side keeps the places that matter.
 -- `of_one`, `of_two`: the trees are added. `goes_one`, `goes_two`: each scenario is on one side.
 module _ (cubes : List (List Literal)) (space one two : Space) (places low high : List ℕ) (v cut start middle : ℕ)
     (old rest half full new : TreeGrowth)
     (forks : ForksEnd start middle v cut full.items.items new.items.items) (kept : rest.items.items ≡ old.items.items)
-    (less : rest.left ≤ old.left) (as_full : new.left ≡ full.left)
+    (no_more : rest.left ≤ old.left) (as_full : new.left ≡ full.left)
     (first : start ≡ length old.items.items) (second : middle ≡ length half.items.items)
     (keeps_below : KeepsWhere cubes (λ s. number_of s v ≤ cut) places low)
     (keeps_above : KeepsWhere cubes (λ s. IsInSpace space s × (cut < number_of s v)) places high)
@@ -161,7 +164,7 @@ module _ (cubes : List (List Literal)) (space one two : Space) (places low high 
           found_parted cubes space one two places low high v cut lo.0 hi.0 fork.0 fork.2.made keeps_below keeps_above
               lo.2 hi.2 goes_one goes_two,
         );
-        fewer = omega (arith, of_one.fewer, of_two.fewer, less, as_full);
+        fewer = omega (arith, of_one.fewer, of_two.fewer, no_more, as_full);
       }
 
 -- the cube at a place is the one that is lent there
@@ -178,20 +181,21 @@ module _ (lent : List (Bor (List Literal))) (i : ℕ) (b : Bor (List Literal)) (
 
 -- what is in a list of one is its first
 only_one : (first j : ℕ) (rest : List ℕ) → rest ≡ [] → Contains (first ∷ rest) j → j ≡ first
-only_one first j rest none c = ⊎_elim (λ (b : Contains [] j). absurd (omega (arith, b.1))) (λ (q : first ≡ j). sym q)
-    (Contains-push_cases [] first j (subst (λ xs. Contains (first ∷ xs) j) none c))
+only_one first j rest none there = ⊎_elim (λ (b : Contains [] j). absurd (omega (arith, b.1)))
+    (λ (q : first ≡ j). sym q)
+    (Contains-push_cases [] first j (subst (λ xs. Contains (first ∷ xs) j) none there))
 
 -- hints of which the rest is empty have the place of the first alone
 pub only_first : (hints rest : List PlaceHint) (first : PlaceHint) (j : ℕ) → hints ≡ first ∷ rest →
     (length rest == 0) ≡ true → Contains (places_of hints) j → j ≡ first.place
-only_first hints [] first j is none c =
-    only_one first.place j [] refl (subst (λ (xs : List PlaceHint). Contains (places_of xs) j) is c)
-only_first hints (x ∷ xs) first j is none c = absurd (omega (arith, eqb-true (length (x ∷ xs)) 0 none))
+only_first hints [] first j is none there =
+    only_one first.place j [] refl (subst (λ (xs : List PlaceHint). Contains (places_of xs) j) is there)
+only_first hints (x ∷ xs) first j is none there = absurd (omega (arith, eqb-true (length (x ∷ xs)) 0 none))
 
 -- if the places have all cubes that a scenario matches, a match among them is one among all cubes
 module _ (cubes : List (List Literal)) (places : List ℕ) (s : Scenario)
     (all : (i : ℕ) → IsMatched cubes s i → Contains places i) where
   -- a match among the places that are kept is the place of the one cube that the scenario matches
   pub found_of_all : (x : Option ℕ) → IsMatchAmong cubes places x s → IsPlaceOfMatch cubes x s
-  found_of_all None h = λ j m. h j (all j m) m
-  found_of_all (Some i) h = (h.is, λ j m. h.only j (all j m) m)
+  found_of_all None is_match = λ j m. is_match j (all j m) m
+  found_of_all (Some i) is_match = (is_match.is, λ j m. is_match.only j (all j m) m)

@@ -28,8 +28,8 @@ place_seen items n places s are is = ap (λ (p : PlacesState). place_at p s) (sy
 
 -- a leaf that has a place doesn't lead to none
 is_no_leaf : (x : Option ℕ) → IsThere (Value x) → x ≡ None → ⊥
-is_no_leaf None h e = h
-is_no_leaf (Some i) h e = cc
+is_no_leaf None h is = h
+is_no_leaf (Some i) h is = cc
 
 -- given: a fact P of elements
 module _ {X : Type 0} (P : X → Type 0) where

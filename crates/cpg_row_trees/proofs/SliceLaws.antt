@@ -52,11 +52,11 @@ module _ (space : Space) (v cut : ℕ) (there : v < 256) (s : Scenario) where
     -- a scenario in the ranges of the side below an open cut is in the ranges of the space
     pub range_below : cut < get_or space.high v 0 → IsInRanges space s
     -- the number of v is at most the cut, so at most the old high; the ranges of other variables are the same
-    range_below h = record {
+    range_below less = record {
       low = in_side.low;
       high = λ u l. elim (cases_eq u v) [
-        | inl e ↦ omega (arith, number_below, ap (number_of s) e, h, ap (λ w. get_or space.high w 0) e)
-        | inr n ↦ omega (arith, in_side.high u l, set_other space.high v cut u n)
+        | inl e ↦ omega (arith, number_below, ap (number_of s) e, less, ap (λ w. get_or space.high w 0) e)
+        | inr differ ↦ omega (arith, in_side.high u l, set_other space.high v cut u differ)
       ];
     }
 
@@ -70,10 +70,10 @@ module _ (space : Space) (v cut : ℕ) (there : v < 256) (s : Scenario) where
     -- a scenario in the ranges of the side above an open cut is in the ranges of the space
     pub range_above : get_or space.low v 0 ≤ cut → IsInRanges space s
     -- the number of v is above the cut, so at least the old low; the ranges of other variables are the same
-    range_above h = record {
+    range_above at_most = record {
       low = λ u l. elim (cases_eq u v) [
-        | inl e ↦ omega (arith, number_above, ap (number_of s) e, h, ap (λ w. get_or space.low w 0) e)
-        | inr n ↦ omega (arith, in_side.low u l, set_other space.low v (cut + 1) u n)
+        | inl e ↦ omega (arith, number_above, ap (number_of s) e, at_most, ap (λ w. get_or space.low w 0) e)
+        | inr differ ↦ omega (arith, in_side.low u l, set_other space.low v (cut + 1) u differ)
       ];
       high = in_side.high;
     }
@@ -92,7 +92,7 @@ sum_of_side side whole at_side at_whole narrow n changed few more one = omega ar
 -- literals can't be as many as needed if a variable that needs one has none
 too_few : (literals rest whole at_rest here narrow found : ℕ) → literals ≤ rest → rest + here ≡ whole + at_rest →
     at_rest ≡ 0 → here ≡ 1 → whole ≤ narrow → narrow ≤ found → found ≤ literals → ⊥
-too_few literals rest whole at_rest here narrow found few changed none one most enough some = omega arith
+too_few literals rest whole at_rest here narrow found few changed none one most enough as_many = omega arith
 
 -- a variable is narrowed once at most
 narrowed_le : (k : ℕ) (space : Space) (v : ℕ) → narrowed k space v ≤ 1
@@ -139,8 +139,8 @@ module _ (k : ℕ) (space : Space) (v cut narrow n : ℕ) (there : v < 256) (rea
           λ s few in_side. goes s (reached.by_ranges s few (range_below space v cut there s long in_side cut_in_range))
           (number_below space v cut there s long in_side);
       few = one_more (below_cut space v cut)
-          (λ u d. ap (λ h. cond (nat_lt u 256 && (nat_lt 0 (get_or space.low u 0) || nat_lt h (top k u))) 1 0)
-          (set_other space.high v cut u d));
+          (λ u differ. ap (λ h. cond (nat_lt u 256 && (nat_lt 0 (get_or space.low u 0) || nat_lt h (top k u))) 1 0)
+          (set_other space.high v cut u differ));
     }
 
   -- given: the side above the cut has all scenarios of the space that are above the cut
@@ -158,8 +158,8 @@ module _ (k : ℕ) (space : Space) (v cut narrow n : ℕ) (there : v < 256) (rea
           λ s few in_side. goes s (reached.by_ranges s few (range_above space v cut there s long in_side low_in_range))
           (number_above space v cut there s long in_side);
       few = one_more (above_cut space v cut)
-          (λ u d. ap (λ l. cond (nat_lt u 256 && (nat_lt 0 l || nat_lt (get_or space.high u 0) (top k u))) 1 0)
-          (set_other space.low v (cut + 1) u d));
+          (λ u differ. ap (λ l. cond (nat_lt u 256 && (nat_lt 0 l || nat_lt (get_or space.high u 0) (top k u))) 1 0)
+          (set_other space.low v (cut + 1) u differ));
     }
 
 -- forks lead to the space of all scenarios of at most k faults, with no variable narrow
@@ -168,7 +168,11 @@ pub whole_reached : (k : ℕ) (space : Space) → IsWhole k space →
     IsForkSpace k space 0
 whole_reached k space whole lies = record {
   by_ranges = λ s few in_side. lies s few;
-  few = omega (arith, sum_by_zeros (narrowed k space) (numbers_below 256) (λ v c. wide v (numbers-Contains 256 v c)));
+  few = omega (
+    arith,
+    sum_by_zeros (narrowed k space) (numbers_below 256)
+        (λ v there. wide v (numbers-Contains 256 v there)),
+  );
 }
   where
     -- each high of the space of all scenarios is the variable's top: k for a count, 1 for a value
@@ -214,11 +218,12 @@ module _ (k : ℕ) (space : Space) (ls : List Literal) (narrow found : ℕ) (ris
   none_without : (v : ℕ) → v < 256 → is_narrow k space v ≡ true → ((l : Literal) → Contains ls l → l.variable ≡ v → ⊥) →
       ⊥
   none_without v there on off =
-      let f : ℕ → ℕ = narrowed k space in
-      let few = weights_le (λ (l : Literal). f l.variable) 256 (without v f) ls rising
-      (λ l c h. omega (arith, without_other v l.variable f (off l c))) (λ l past. is_none l.variable past) in
-      too_few _ _ _ (without v f v) (f v) narrow found few
-      (sum_changed (without v f) f 256 v there (λ u d. without_other v u f d)) (without_here v f)
+      let weight : ℕ → ℕ = narrowed k space in
+      let few = weights_le (λ (l : Literal). weight l.variable) 256 (without v weight) ls rising
+      (λ l c h. omega (arith, without_other v l.variable weight (off l c))) (λ l past. is_none l.variable past) in
+      too_few _ _ _ (without v weight v) (weight v) narrow found few
+      (sum_changed (without v weight) weight 256 v there (λ u differ. without_other v u weight differ))
+      (without_here v weight)
       (is_one v there on) reached.few enough bounds.narrow
 
   -- each narrow variable has a literal
@@ -228,19 +233,19 @@ module _ (k : ℕ) (space : Space) (ls : List Literal) (narrow found : ℕ) (ris
       -- by whether some literal is on v: if none were, v wouldn't be narrow
       step : (b : Bool) → list_any (λ (l : Literal). l.variable == v) ls ≡ b →
           (l : Literal) × Contains ls l × (l.variable ≡ v)
-      step true e = let r = list_any_parts (λ (l : Literal). l.variable == v) ls e in
-          (r.0, r.1, eqb-true r.0.variable v r.2)
-      step false e = absurd (none_without v there on (λ l c is. both_ways (l.variable == v)
-          (from_any_false (λ (m : Literal). m.variable == v) ls l e c) (eq-eqb l.variable v is)))
+      step true is = let found_here = list_any_parts (λ (l : Literal). l.variable == v) ls is in
+          (found_here.0, found_here.1, eqb-true found_here.0.variable v found_here.2)
+      step false same = absurd (none_without v there on (λ l among is. both_ways (l.variable == v)
+          (from_any_false (λ (m : Literal). m.variable == v) ls l same among) (eq-eqb l.variable v is)))
 
   -- given: a scenario s of at most k faults that matches the literals
   module _ (s : Scenario) (few : HasAtMostFaults k s) (all : matches ls s ≡ true) where
     -- at a literal's variable the scenario's number is in the space
     at_literal : (v : ℕ) (l : Literal) → Contains ls l → l.variable ≡ v →
         (get_or space.low v 0 ≤ number_of s v) × (number_of s v ≤ get_or space.high v 0)
-    at_literal v l c is =
-        let on = from_all (holds s) ls l all c in
-        let inside = bounds.inside l c in
+    at_literal v l there is =
+        let on = from_all (holds s) ls l all there in
+        let inside = bounds.inside l there in
         subst (λ (u : ℕ). (get_or space.low u 0 ≤ number_of s u) × (number_of s u ≤ get_or space.high u 0)) is
         (omega (arith, inside.low, holds-low s l on), omega (arith, inside.high, holds-high s l on))
 
@@ -256,13 +261,17 @@ module _ (k : ℕ) (space : Space) (ls : List Literal) (narrow found : ℕ) (ris
     -- at each variable the scenario's number is in the space
     at_each : (v : ℕ) → v < 256 → (b : Bool) → is_narrow k space v ≡ b →
         (get_or space.low v 0 ≤ number_of s v) × (number_of s v ≤ get_or space.high v 0)
-    at_each v there true on = let r = has_literal v there on in at_literal v r.0 r.1 r.2
+    at_each v there true on = let found_here = has_literal v there on in
+        at_literal v found_here.0 found_here.1 found_here.2
     at_each v there false off = at_wide v off
 
     -- a scenario that matches the literals lies in the space
     comes_here : IsInSpace space s
     comes_here = reached.by_ranges s few
-        (record { low = λ v l. (at_each v l (is_narrow k space v) refl).0; high = λ v l. (at_each v l (is_narrow k space v) refl).1 })
+        (record {
+          low = λ v less. (at_each v less (is_narrow k space v) refl).0;
+          high = λ v less. (at_each v less (is_narrow k space v) refl).1;
+        })
 
   -- literals that hold in the space, lie inside it and are on all its narrow variables say which scenarios are in it
   pub own : IsOwn k space ls
@@ -300,7 +309,7 @@ finds_nowhere cubes k space from to none = record {
 
 -- two places are equal if the options that hold them are
 some_is : (i j : ℕ) → Some i ≡ Some j → i ≡ j
-some_is i j e = cc
+some_is i j is = cc
 
 -- given: a slice of one cube at most, whose scenarios are those of the space
 -- `one`: the slice has at most the cube at `from`. `is_own`: the literals of this cube say which scenarios are in the space.
@@ -313,7 +322,7 @@ module _ (cubes : List (List Literal)) (k : ℕ) (space : Space) (from to : ℕ)
   -- a leaf with the place of a cube is right for the slice of that cube, if the cube says which scenarios are in the space
   pub finds_here : FindsMatches cubes k space from to (λ s. Some from)
   finds_here = record {
-    is = λ s i few lies e. subst (λ (j : ℕ). IsMatched cubes s j) (some_is from i e)
+    is = λ s i few lies is. subst (λ (j : ℕ). IsMatched cubes s j) (some_is from i is)
         (record { there = there; matched = is_own.hold s few lies });
     lies = λ s j few after before m.
         is_own.come s few (subst (λ (i : ℕ). matches (cube_at cubes i) s ≡ true) (only_place j after before) m.matched);
@@ -325,7 +334,7 @@ module _ (cubes : List (List Literal)) (k : ℕ) (space : Space) (from to : ℕ)
 -- given: a fork whose sides lead to the matches of two slices that meet at a border
 -- `fork`: r is the fork of the two trees at the cut. `low`, `high`: each tree leads to the matches of its slice.
 -- `goes_one`, `goes_two`: each scenario of the space is on one side. `back_one`, `back_two`: and each of a side is
--- in the space. `at_most`, `at_least`: the sides are apart by the cut.
+-- in the space. `at_most`, `past_cut`: the sides are apart by the cut.
 module _ (cubes : List (List Literal)) (k : ℕ) (space one two : Space) (from border to v cut : ℕ)
     (below above r : TreeNode (Option ℕ)) (fork : IsForkOf v cut below above r)
     (low : FindsMatches cubes k one from border (value_at below))
@@ -335,14 +344,14 @@ module _ (cubes : List (List Literal)) (k : ℕ) (space one two : Space) (from b
     (back_one : (s : Scenario) → HasAtMostFaults k s → IsInSpace one s → IsInSpace space s)
     (back_two : (s : Scenario) → HasAtMostFaults k s → IsInSpace two s → IsInSpace space s)
     (at_most : (s : Scenario) → IsInSpace one s → number_of s v ≤ cut)
-    (at_least : (s : Scenario) → IsInSpace two s → cut < number_of s v) where
+    (past_cut : (s : Scenario) → IsInSpace two s → cut < number_of s v) where
   -- the fork leads to the matches of both slices
   pub finds_parted : FindsMatches cubes k space from to (value_at r)
   -- a scenario finds a place on the side of the cut to which it goes; a cube before the border is found below, and any other above
   finds_parted = record {
     is = λ s i few lies e. elim (cases_lt cut (number_of s v)) [
-      | inl h ↦ high.is s i few (goes_two s lies h) (sym (fork.value_above s h) ∙ e)
-      | inr h ↦ low.is s i few (goes_one s lies h) (sym (fork.value_below s h) ∙ e)
+      | inl less ↦ high.is s i few (goes_two s lies less) (sym (fork.value_above s less) ∙ e)
+      | inr no_more ↦ low.is s i few (goes_one s lies no_more) (sym (fork.value_below s no_more) ∙ e)
     ];
     lies = λ s j few after before m. elim (cases_lt j border) [
       | inl h ↦ back_one s few (low.lies s j few after h m)
@@ -350,7 +359,7 @@ module _ (cubes : List (List Literal)) (k : ℕ) (space one two : Space) (from b
     ];
     comes = λ s j few after before m. elim (cases_lt j border) [
       | inl h ↦ fork.value_below s (at_most s (low.lies s j few after h m)) ∙ low.comes s j few after h m
-      | inr h ↦ fork.value_above s (at_least s (high.lies s j few h before m)) ∙ high.comes s j few h before m
+      | inr h ↦ fork.value_above s (past_cut s (high.lies s j few h before m)) ∙ high.comes s j few h before m
     ];
   }
 
@@ -362,7 +371,7 @@ module _ (k : ℕ) (space side : Space) (v cut narrow n : ℕ) (there : v < 256)
       (goes : (s : Scenario) → IsInSpace space s → number_of s v ≤ cut → IsInSpace side s) where
     -- a scenario up to the cut lies in the side below
     to_under : (s : Scenario) → IsInSpace space s → number_of s v ≤ cut → IsInSpace (below_cut space v cut) s
-    to_under s lies h = subst (λ (r : Space). IsInSpace r s) is (goes s lies h)
+    to_under s lies at_most = subst (λ (r : Space). IsInSpace r s) is (goes s lies at_most)
 
     -- forks lead to the side below the cut
     pub under_reached : IsForkSpace k side n
@@ -385,7 +394,7 @@ module _ (k : ℕ) (space side : Space) (v cut narrow n : ℕ) (there : v < 256)
       (goes : (s : Scenario) → IsInSpace space s → cut < number_of s v → IsInSpace side s) where
     -- a scenario above the cut lies in the side above
     to_over : (s : Scenario) → IsInSpace space s → cut < number_of s v → IsInSpace (above_cut space v cut) s
-    to_over s lies h = subst (λ (r : Space). IsInSpace r s) is (goes s lies h)
+    to_over s lies less = subst (λ (r : Space). IsInSpace r s) is (goes s lies less)
 
     -- forks lead to the side above the cut
     pub over_reached : IsForkSpace k side n
@@ -616,7 +625,7 @@ module _ (space again over : Space) (v cut : ℕ) (back : again ≡ space) where
   pub goes_again : ((s : Scenario) → IsInSpace again s → cut < number_of s v → IsInSpace over s) → (s : Scenario) →
       IsInSpace space s → cut < number_of s v →
       IsInSpace over s
-  goes_again goes s lies h = goes s (subst (λ (r : Space). IsInSpace r s) (sym back) lies) h
+  goes_again goes s lies less = goes s (subst (λ (r : Space). IsInSpace r s) (sym back) lies) less
 
 -- ---- all cubes
 
@@ -631,14 +640,14 @@ module _ (cubes : List (List Literal)) (k : ℕ) (space : Space) (s : Scenario) 
   -- a tree that finds the matches comes to the cube that the scenario matches
   comes_to : (place : Scenario → Option ℕ) → FindsMatches cubes k space 0 to place → (j : ℕ) → IsMatched cubes s j →
       place s ≡ Some j
-  comes_to place finds j m = finds.comes s j few (omega arith) (omega (arith, m.there, all)) m
+  comes_to place finds j matched = finds.comes s j few (omega arith) (omega (arith, matched.there, all)) matched
 
   -- a tree that finds the matches gives the place of the cube that the scenario matches
   is_place : (place : Scenario → Option ℕ) → FindsMatches cubes k space 0 to place → (x : Option ℕ) → place s ≡ x →
       IsPlaceOfMatch cubes x s
-  is_place place finds None e = λ j m. none_some j (place s) e (comes_to place finds j m)
-  is_place place finds (Some i) e =
-      (finds.is s i few lies e, λ j m. sym (some_is i j (sym e ∙ comes_to place finds j m)))
+  is_place place finds None is = λ j matched. none_some j (place s) is (comes_to place finds j matched)
+  is_place place finds (Some i) is =
+      (finds.is s i few lies is, λ j matched. sym (some_is i j (sym is ∙ comes_to place finds j matched)))
 
   -- a tree that finds the matches of all cubes gives each scenario the place of the one cube that it matches
   pub is_place_of_match : (n : TreeNode (Option ℕ)) → FindsMatches cubes k space 0 to (value_at n) →

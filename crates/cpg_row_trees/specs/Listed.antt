@@ -20,7 +20,9 @@ AreRangesAll k space = (s : Scenario) → HasAtMostFaults k s → IsInRanges spa
 
 -- the scenarios of at most k faults in the space are those that match the literals and whose number of v is in range
 pub record IsOwnOn (k : ℕ) (space : Space) (literals : List Literal) (v : ℕ) : Type 0 where
+  -- where a scenario is in the space, the literals hold
   pub hold : (s : Scenario) → HasAtMostFaults k s → IsInSpace space s → matches literals s ≡ true
+  -- where they hold and its number of v is in range, it is in the space
   pub come : (s : Scenario) → HasAtMostFaults k s → matches literals s ≡ true → get_or space.low v 0 ≤ number_of s v →
       number_of s v ≤ get_or space.high v 0 →
       IsInSpace space s
@@ -43,5 +45,7 @@ IsListedTop k space literals Unknown = Unit {0}
 
 -- there is a cube at `place`, and its first `depth` literals are those of the cube at `other`
 pub record IsNextCube (cubes : List (List Literal)) (other place depth : ℕ) : Type 0 where
+  -- the place is one of the list
   pub there : place < length cubes
+  -- both cubes begin with the same literals
   pub same : take depth (cube_at cubes place) ≡ take depth (cube_at cubes other)

@@ -23,7 +23,9 @@ IsImpliedBy literals l = (s : Scenario) → matches literals s ≡ true → hold
 
 -- the scenario matches the cube at place i, and of the given places no other one's
 pub record IsOnlyMatch (cubes : List (List Literal)) (places : List ℕ) (s : Scenario) (i : ℕ) : Type 0 where
+  -- the scenario matches the cube at this place
   pub is : IsMatched cubes s i
+  -- of the given places it matches no other one's cube
   pub only : (j : ℕ) → Contains places j → IsMatched cubes s j → j ≡ i
 
 -- the answer is the only one of the given places whose cube the scenario matches, or None if it matches none of them
@@ -38,17 +40,23 @@ KeepsWhere cubes fits places kept =
 
 -- the new list has the place if some scenario fits, and all places of the old one
 pub record KeepsPlace (fits : Scenario → Type 0) (place : ℕ) (old new : List PlaceHint) : Type 0 where
+  -- no place of the old list is left out
   pub earlier : (i : ℕ) → Contains (places_of old) i → Contains (places_of new) i
+  -- the place is in the new list if some scenario fits
   pub this : (s : Scenario) → fits s → Contains (places_of new) place
 
 -- where the literals match, the number of v is in the range; a high of 255, the greatest byte, is no bound
 pub record IsVariableRange (literals : List Literal) (v : ℕ) (range : VariableRange) : Type 0 where
+  -- its low is a lower bound
   pub low : (s : Scenario) → matches literals s ≡ true → range.low ≤ number_of s v
+  -- its high is an upper bound, unless it is 255
   pub high : (s : Scenario) → matches literals s ≡ true → range.high < 255 → number_of s v ≤ range.high
 
 -- the space has numbers of v on both sides of the cut
 pub record IsOpenCut (space : Space) (v cut : ℕ) : Type 0 where
+  -- some numbers of the space are up to the cut
   pub below : is_open_below space v cut ≡ true
+  -- some are above it
   pub above : is_open_above space v cut ≡ true
 
 -- What stands at the top of the tree of some places: a leaf with the match among them in each scenario of the space, or a
@@ -62,5 +70,7 @@ IsPlacesTop cubes space places Unknown = Unit {0}
 -- doesn't grow.
 pub record AddsPlaceTree (cubes : List (List Literal)) (space : Space) (places : List ℕ)
     (old new : TreeGrowth) : Type 0 where
+  -- the tree that is added leads each scenario of the space to the match
   pub found : AddsTree (HoldsInSpace (IsMatchAmong cubes places) space) old.items.items new.items.items
+  -- no more may be spent than before
   pub fewer : new.left ≤ old.left

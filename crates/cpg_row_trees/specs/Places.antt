@@ -27,7 +27,9 @@ cube_at cubes i = get_or cubes i []
 
 -- there is a cube at place i, and the scenario matches it
 pub record IsMatched (cubes : List (List Literal)) (s : Scenario) (i : ℕ) : Type 0 where
+  -- the place is one of the list
   pub there : i < length cubes
+  -- the scenario matches the cube there
   pub matched : matches (cube_at cubes i) s ≡ true
 
 -- the answer is the place of the one cube that the scenario matches, or None if it matches no cube

@@ -20,7 +20,9 @@ use Rattle.cpg_row_trees.specs.PlaceHints.{IsOpenCut}
 
 -- each number of a scenario is in the space's range, whatever faults are left
 pub record IsInRanges (space : Space) (s : Scenario) : Type 0 where
+  -- no number is below the low of its variable
   pub low : (v : ℕ) → v < 256 → get_or space.low v 0 ≤ number_of s v
+  -- none is above the high
   pub high : (v : ℕ) → v < 256 → number_of s v ≤ get_or space.high v 0
 
 -- whether the range of v is narrower than that of all scenarios of at most k faults
@@ -40,7 +42,9 @@ pub record IsForkSpace (k : ℕ) (space : Space) (narrow : ℕ) : Type 0 where
 
 -- all numbers of a literal's range are in the space's range of its variable
 pub record IsInside (space : Space) (l : Literal) : Type 0 where
+  -- the literal's low isn't below that of the space
   pub low : get_or space.low l.variable 0 ≤ l.low
+  -- its high isn't above that of the space
   pub high : l.high ≤ get_or space.high l.variable 0
 
 -- the literals say no less and no more than the space does of their variables, at least `found` of which are narrowed
@@ -54,7 +58,9 @@ pub record AreSpaceBounds (k : ℕ) (space : Space) (literals : List Literal) (f
 
 -- the scenarios of at most k faults in the space are those that match the literals
 pub record IsOwn (k : ℕ) (space : Space) (literals : List Literal) : Type 0 where
+  -- where a scenario is in the space, the literals hold
   pub hold : (s : Scenario) → HasAtMostFaults k s → IsInSpace space s → matches literals s ≡ true
+  -- where they hold, it is in the space
   pub come : (s : Scenario) → HasAtMostFaults k s → matches literals s ≡ true → IsInSpace space s
 
 -- `place` finds the cubes of a slice, those from `from` up to `to`, in the scenarios of the space of at most k faults
@@ -76,12 +82,16 @@ IsSliceTop cubes k space from to Unknown = Unit {0}
 -- a tree is added that finds the cubes of a slice; no more items may be added than before
 pub record AddsSliceTree (cubes : List (List Literal)) (k : ℕ) (space : Space) (from to : ℕ)
     (old new : TreeGrowth) : Type 0 where
+  -- the tree that is added finds them
   pub finds : AddsTree (λ n. FindsMatches cubes k space from to (value_at n)) old.items.items new.items.items
+  -- no more items may be added than before
   pub fewer : new.left ≤ old.left
 
 -- the literals that a fork on v at a cut says of its two sides
 pub record AreForkSides (k v cut : ℕ) (sides : ForkSides) : Type 0 where
+  -- below: the numbers up to the cut
   pub below : sides.below ≡ record { variable = v; low = 0; high = cut }
+  -- above: the numbers past the cut, up to the greatest that v can have
   pub above : sides.above ≡ record { variable = v; low = cut + 1; high = top k v }
 
 -- what the ranges of two literals on one variable have in common; its low is above its high if that is nothing
@@ -95,8 +105,11 @@ left_by (Some l) ls = slice_set ls (length ls - 1) l
 
 -- l is the last of the literals, and is on v
 pub record IsLastOn (ls : List Literal) (v : ℕ) (l : Literal) : Type 0 where
+  -- there is a literal
   pub some : 0 < length ls
+  -- l is the last one
   pub last : get_or ls (length ls - 1) l ≡ l
+  -- it is on v
   pub on : l.variable ≡ v
 
 -- the literal l is entered into the old literals; `was` is what the last one was if it was changed
@@ -105,4 +118,5 @@ pub record IsEntered (old : List Literal) (l : Literal) (new : List Literal) (wa
   pub both : (s : Scenario) → matches new s ≡ (matches old s && holds s l)
   -- taking l back leaves the old ones
   pub back : left_by was new ≡ old
+  -- there is a new literal: l itself, or the last old one with what l says added
   pub some : 0 < length new

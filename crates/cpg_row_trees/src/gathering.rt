@@ -12,7 +12,7 @@ use crate::walk::Test;
 use cpg_base::OutOfMemory;
 use cpg_tree::{Space, Top, TreeItem, part_in, top_of};
 
-/// Adds a place to those found, if there is one, and returns whether there is.
+/// Adds a place to `found`, if there is one, and returns whether there is.
 fn add_place(place: Option<u32>, found: &mut Vec<u32>) -> Result<bool, OutOfMemory>
     ensures kept { IfOk result (λ _. (i : ℕ) → Contains found.old.items i → Contains found.new.items i) }
     ensures found { IfOk result (λ there. OnTrue there (IsAmong found.new.items place)) }
@@ -25,8 +25,8 @@ fn add_place(place: Option<u32>, found: &mut Vec<u32>) -> Result<bool, OutOfMemo
     Ok(true)
 }
 
-/// Adds the places that scenarios of a space come to. It stops with false at the first leaf without a place or at which a
-/// test fails. The space is narrowed on the way, and is as before on true.
+/// Adds to `found` the places that scenarios of a space come to. It stops with false at the first leaf without a place
+/// or at which a test fails. The space is narrowed on the way, and is as before on true.
 fn gather_each<J: Test>(
     items: &[TreeItem<Option<u32>>],
     space: &mut Space,
@@ -102,7 +102,8 @@ fn gather_in_all<J: Test>(
     Ok(all)
 }
 
-/// Adds a place that scenarios of a space come to, if there is one and a test passes there, and returns whether it did.
+/// Adds to `found` the place that scenarios of a space come to, if there is one and a test passes there, and returns
+/// whether it did.
 fn gather_one<J: Test>(
     place: Option<u32>,
     space: &Space,
@@ -120,8 +121,8 @@ fn gather_one<J: Test>(
     Ok(there)
 }
 
-/// Adds the places that scenarios of a space come to. It stops with false at the first leaf without a place or at which a
-/// test fails. The space isn't copied if all scenarios come to one leaf.
+/// Adds to `found` the places that scenarios of a space come to. It stops with false at the first leaf without a place
+/// or at which a test fails. The space isn't copied if all scenarios come to one leaf.
 pub(crate) fn gather<J: Test>(
     items: &[TreeItem<Option<u32>>],
     space: &Space,

@@ -24,15 +24,17 @@ all_from_members P xs f k d l = f (get_or xs k d) (Contains-get_or xs k d l)
 module _ (g : Graph) (order : List ℕ) (topological : IsTopological g order) where
   -- the steps of an order refer to processes of the graph
   pub steps_below : (m : ℕ) → process_count g ≤ m → All (IsStepBelow m) (map (step_of g) order)
-  steps_below m few = all_from_members (IsStepBelow m) (map (step_of g) order) (λ s k.
-      let r = Contains-map_parts (step_of g) order s k in
-      let within = from_order (process_count g) order topological.all r.0 r.1 in
-      subst (IsStepBelow m) r.2 (record {
+  steps_below m few = all_from_members (IsStepBelow m) (map (step_of g) order) (λ s among.
+      let of_process = Contains-map_parts (step_of g) order s among in
+      let within = from_order (process_count g) order topological.all of_process.0 of_process.1 in
+      subst (IsStepBelow m) of_process.2 (record {
         process = omega arith;
-        inputs = all_from_members (λ (i : Input). i.source < m) (map (input_of g) (inputs g r.0)) (λ i j.
-            let e = Contains-map_parts (input_of g) (inputs g r.0) i j in
-            let from = source_in_order g order topological e.0 (inputs_parts g r.0 e.0 e.1).0 in
-            subst (λ (x : Input). x.source < m) e.2 (omega arith));
+        inputs = all_from_members (λ (i : Input). i.source < m) (map (input_of g) (inputs g of_process.0))
+            (λ i input_there.
+            let of_edge = Contains-map_parts (input_of g) (inputs g of_process.0) i input_there in
+            let from = source_in_order g order topological of_edge.0
+            (inputs_parts g of_process.0 of_edge.0 of_edge.1).0 in
+            subst (λ (x : Input). x.source < m) of_edge.2 (omega arith));
       }))
 
   -- an ordered tree tests conditions of the graph

@@ -37,9 +37,9 @@ condition_in (Some t) = Some t.condition
 
 -- a test of an edge is of the condition of its source
 test_parts : (x : Option ℕ) (w : Option Bool) (t : ValueTest) → test_of x w ≡ Some t → x ≡ Some t.condition
-test_parts None w t h = cc
-test_parts (Some c) None t h = cc
-test_parts (Some c) (Some v) t h = ap condition_in h
+test_parts None w t x_is = cc
+test_parts (Some c) None t x_is = cc
+test_parts (Some c) (Some v) t x_is = ap condition_in x_is
 
 -- the ranks of the conditions: the places of their processes in the order
 abbrev pub place_ranks : Graph → List ℕ → List ℕ
@@ -49,7 +49,7 @@ place_ranks g order = map (λ c. place order (process_of g c)) (numbers_below (c
 module _ (g : Graph) (order : List ℕ) (topological : IsTopological g order) where
   -- the rank of a condition is the place of its process
   rank_is : (c : ℕ) → c < condition_count g → rank (place_ranks g order) c ≡ place order (process_of g c)
-  rank_is c l = get_or-map-below (λ d. place order (process_of g d)) (condition_count g) c 0 l
+  rank_is c below = get_or-map-below (λ d. place order (process_of g d)) (condition_count g) c 0 below
 
   -- there is a rank for each condition
   length_ranks : length (place_ranks g order) ≡ condition_count g
@@ -60,26 +60,27 @@ module _ (g : Graph) (order : List ℕ) (topological : IsTopological g order) wh
   -- Equal ranks are equal places of their processes, so the processes, and then the conditions, are the same.
   ranks_apart : (c d : ℕ) → c < length (place_ranks g order) → d < length (place_ranks g order) →
       rank (place_ranks g order) c ≡ rank (place_ranks g order) d → c ≡ d
-  ranks_apart c d l m e =
-      let h : c < condition_count g = omega (arith, length_ranks) in
-      let k : d < condition_count g = omega (arith, length_ranks) in
-      same_condition g c d h k (same_place order (process_of g c) (process_of g d)
-      (Contains-order (process_count g) order topological.all (process_of g c) (process_of_below g c h))
-      (Contains-order (process_count g) order topological.all (process_of g d) (process_of_below g d k))
-      (sym (rank_is c h) ∙ e ∙ rank_is d k))
+  ranks_apart c d c_ranked d_ranked same_rank =
+      let c_below : c < condition_count g = omega (arith, length_ranks) in
+      let d_below : d < condition_count g = omega (arith, length_ranks) in
+      same_condition g c d c_below d_below (same_place order (process_of g c) (process_of g d)
+      (Contains-order (process_count g) order topological.all (process_of g c) (process_of_below g c c_below))
+      (Contains-order (process_count g) order topological.all (process_of g d) (process_of_below g d d_below))
+      (sym (rank_is c c_below) ∙ same_rank ∙ rank_is d d_below))
 
   -- A tree that is ordered by rank is ordered from a place on.
   -- By induction on the tree: the rank of each tested condition is the place of its process.
   ordered_by_rank : (k m : ℕ) (t : Guard) → IsRanked (place_ranks g order) k m t → IsOrderedFrom g order k t
-  ordered_by_rank k m (Leaf a) r = tt
-  ordered_by_rank k m (Test c off on) r =
-      let within : c < condition_count g = let l = r.0 in omega (arith, length_ranks) in
+  ordered_by_rank k m (Leaf a) by_rank = tt
+  ordered_by_rank k m (Test c off on) by_rank =
+      let within : c < condition_count g = let c_ranked = by_rank.0 in omega (arith, length_ranks) in
       let is = rank_is c within in (
         within,
-        subst (λ n. k ≤ n) is r.1,
+        subst (λ n. k ≤ n) is by_rank.1,
         subst (λ n. IsOrderedFrom g order (n + 1) off) is
-            (ordered_by_rank (rank (place_ranks g order) c + 1) m off r.3),
-        subst (λ n. IsOrderedFrom g order (n + 1) on) is (ordered_by_rank (rank (place_ranks g order) c + 1) m on r.4),
+            (ordered_by_rank (rank (place_ranks g order) c + 1) m off by_rank.3),
+        subst (λ n. IsOrderedFrom g order (n + 1) on) is
+            (ordered_by_rank (rank (place_ranks g order) c + 1) m on by_rank.4),
       )
 
   -- a tree is right for process p: it gives its activation, tests earlier conditions by rank, and is reduced
@@ -131,8 +132,8 @@ module _ (g : Graph) (order : List ℕ) (topological : IsTopological g order) wh
           -- the rank of what the edge tests is the place of its source
           at : (t : ValueTest) → test_of (condition_of g (source g e)) (edge_at g e).when ≡ Some t →
               rank (place_ranks g order) t.condition ≡ place order (source g e)
-          at t h =
-              let its = test_parts (condition_of g (source g e)) (edge_at g e).when t h in
+          at t e_is =
+              let its = test_parts (condition_of g (source g e)) (edge_at g e).when t e_is in
               rank_is t.condition (condition_of_below g (source g e) t.condition its)
               ∙ ap (place order) (process_of_condition_of g (source g e) t.condition its)
 
@@ -160,47 +161,49 @@ module _ (g : Graph) (order : List ℕ) (topological : IsTopological g order) wh
     -- the activation of a process with one input is settled by this input
     by_last : (b j : Bool) (e : ℕ) (f : ℕ → Bool) → f e ≡ b →
         (if b then by_input j e else Inactive) ≡ activation_by j (e ∷ []) f
-    by_last true true e f h = ap (λ b. by_first (if b then e ∷ [] else [])) (sym h)
-    by_last false true e f h = ap (λ b. by_first (if b then e ∷ [] else [])) (sym h)
-    by_last true false e f h = ap (λ b. if b && true then Plain else Inactive) (sym h)
-    by_last false false e f h = ap (λ b. if b && true then Plain else Inactive) (sym h)
+    by_last true true e f f_is = ap (λ b. by_first (if b then e ∷ [] else [])) (sym f_is)
+    by_last false true e f f_is = ap (λ b. by_first (if b then e ∷ [] else [])) (sym f_is)
+    by_last true false e f f_is = ap (λ b. if b && true then Plain else Inactive) (sym f_is)
+    by_last false false e f f_is = ap (λ b. if b && true then Plain else Inactive) (sym f_is)
 
     -- the activation of a process with one input more is settled by this input, or else by the others
     by_more : (b j : Bool) (e d : ℕ) (es : List ℕ) (f : ℕ → Bool) → f e ≡ b →
         first_settling j (if b then by_input j e else Inactive) (activation_by j (d ∷ es) f)
         ≡ activation_by j (e ∷ d ∷ es) f
-    by_more true true e d es f h = ap (λ b. by_first (if b then e ∷ filter f (d ∷ es) else filter f (d ∷ es))) (sym h)
-    by_more false true e d es f h = ap (λ b. by_first (if b then e ∷ filter f (d ∷ es) else filter f (d ∷ es))) (sym h)
-    by_more true false e d es f h = ap (λ b. if b && list_all f (d ∷ es) then Plain else Inactive) (sym h)
-    by_more false false e d es f h = ap (λ b. if b && list_all f (d ∷ es) then Plain else Inactive) (sym h)
+    by_more true true e d es f f_is = ap (λ b. by_first (if b then e ∷ filter f (d ∷ es) else filter f (d ∷ es)))
+        (sym f_is)
+    by_more false true e d es f f_is = ap (λ b. by_first (if b then e ∷ filter f (d ∷ es) else filter f (d ∷ es)))
+        (sym f_is)
+    by_more true false e d es f f_is = ap (λ b. if b && list_all f (d ∷ es) then Plain else Inactive) (sym f_is)
+    by_more false false e d es f f_is = ap (λ b. if b && list_all f (d ∷ es) then Plain else Inactive) (sym f_is)
 
     -- The tree that is composed of some inputs is right for them.
     -- By induction on the inputs: one alone decides by its own tree, and the first of several meets the tree of the others.
     composed_of : (es : List ℕ) → ((e : ℕ) → Contains es e → Contains (inputs g p) e) →
         IsComposedOf es (composed g join (place_ranks g order) trees (map (input_of g) es))
-    composed_of [] f = record { is = λ o long. refl; ranked = tt; reduced = tt }
-    composed_of (e ∷ []) f =
-        let c = f e (Contains-first e []) in
+    composed_of [] all_inputs = record { is = λ o long. refl; ranked = tt; reduced = tt }
+    composed_of (e ∷ []) all_inputs =
+        let is_input = all_inputs e (Contains-first e []) in
         record {
-          is = λ o long. input_at e c o long ∙ by_last (live g o e) join e (live g o) refl;
-          ranked = input_ranked e c;
-          reduced = input_reduced e c;
+          is = λ o long. input_at e is_input o long ∙ by_last (live g o e) join e (live g o) refl;
+          ranked = input_ranked e is_input;
+          reduced = input_reduced e is_input;
         }
-    composed_of (e ∷ d ∷ es) f =
-        let c = f e (Contains-first e (d ∷ es)) in
-        let later = composed_of (d ∷ es) (λ x k. f x (Contains-rest e (d ∷ es) x k)) in
+    composed_of (e ∷ d ∷ es) all_inputs =
+        let is_input = all_inputs e (Contains-first e (d ∷ es)) in
+        let later = composed_of (d ∷ es) (λ x k. all_inputs x (Contains-rest e (d ∷ es) x k)) in
         record {
           is = λ o long. met_at o join (place_ranks g order) (input_tree g join trees (input_of g e))
               (composed g join (place_ranks g order) trees (map (input_of g) (d ∷ es)))
-              ∙ ap₂ (first_settling join) (input_at e c o long) (later.is o long)
+              ∙ ap₂ (first_settling join) (input_at e is_input o long) (later.is o long)
               ∙ by_more (live g o e) join e d es (live g o) refl;
           ranked = met_ranked (place_ranks g order) ranks_apart (place order p) join 0
               (input_tree g join trees (input_of g e))
               (composed g join (place_ranks g order) trees (map (input_of g) (d ∷ es)))
-              (input_ranked e c) later.ranked;
+              (input_ranked e is_input) later.ranked;
           reduced = met_reduced join (place_ranks g order) (input_tree g join trees (input_of g e))
               (composed g join (place_ranks g order) trees (map (input_of g) (d ∷ es)))
-              (input_reduced e c) later.reduced;
+              (input_reduced e is_input) later.reduced;
         }
 
   -- the trees of the processes before a place are made
@@ -215,13 +218,14 @@ module _ (g : Graph) (order : List ℕ) (topological : IsTopological g order) wh
   one_more_composed : (k p : ℕ) (trees : List Guard) → AreComposed k trees → p < process_count g → place order p ≡ k
       → AreComposed (k + 1)
       (set trees p (composed g (process_at g p).join (place_ranks g order) trees (map (input_of g) (inputs g p))))
-  one_more_composed k p trees are h at = record {
+  one_more_composed k p trees are p_below at = record {
     long = length-set trees p tree ∙ are.long;
-    made = λ q l m. elim (cases_eq q p) [
-      | inl e ↦ subst (λ x. IsComposed x (get_or (set trees p tree) x (Leaf Inactive))) (sym e)
+    made = λ q q_below q_before. elim (cases_eq q p) [
+      | inl is_p ↦ subst (λ x. IsComposed x (get_or (set trees p tree) x (Leaf Inactive))) (sym is_p)
           (subst (IsComposed p) (sym (get_or-set_same trees p tree (Leaf Inactive) (omega (arith, are.long)))) its)
-      | inr n ↦ subst (IsComposed q) (sym (get_or-set_other trees p q tree (Leaf Inactive) n))
-          (are.made q l (let d = place_differs g order topological q p l h n in omega (arith, at)))
+      | inr is_other ↦ subst (IsComposed q) (sym (get_or-set_other trees p q tree (Leaf Inactive) is_other))
+          (are.made q q_below (let places_differ = place_differs g order topological q p q_below p_below is_other in
+          omega (arith, at)))
     ];
   }
     where
@@ -233,7 +237,8 @@ module _ (g : Graph) (order : List ℕ) (topological : IsTopological g order) wh
       -- It is right for all its inputs, so it gives the process's activation (`activation_is`).
       its : IsComposed p tree
       its =
-          let of = composed_of p trees (λ q l m. are.made q l (omega (arith, at))) (process_at g p).join
+          let of = composed_of p trees (λ q q_below q_before. are.made q q_below (omega (arith, at)))
+          (process_at g p).join
           (inputs g p) (λ e c. c) in
           record {
             is = λ o long. of.is o long ∙ sym (activation_is g order topological o p (omega arith));
@@ -246,13 +251,14 @@ module _ (g : Graph) (order : List ℕ) (topological : IsTopological g order) wh
       → (length (composed_along g (place_ranks g order) (map (step_of g) ps) trees) ≡ process_count g)
       × ((p : ℕ) → p < process_count g →
       IsComposed p (get_or (composed_along g (place_ranks g order) (map (step_of g) ps) trees) p (Leaf Inactive)))
-  composed_to_end [] k trees e are = (are.long, λ p l. are.made p l (rest_none g order topological k e p l))
-  composed_to_end (p ∷ ps) k trees e are =
-      let r = rest_first g order topological k p ps e in
+  composed_to_end [] k trees rest_is are =
+      (are.long, λ p below. are.made p below (rest_none g order topological k rest_is p below))
+  composed_to_end (p ∷ ps) k trees rest_is are =
+      let first_there = rest_first g order topological k p ps rest_is in
       composed_to_end ps (k + 1)
       (set trees p (composed g (process_at g p).join (place_ranks g order) trees (map (input_of g) (inputs g p))))
-      (rest_more g order topological k p ps e)
-      (one_more_composed k p trees are r.0 r.1)
+      (rest_more g order topological k p ps rest_is)
+      (one_more_composed k p trees are first_there.0 first_there.1)
 
   -- the trees that the steps of the whole order make, from trees that are all inactive
   abbrev pub whole : List Guard
@@ -271,8 +277,8 @@ module _ (g : Graph) (order : List ℕ) (topological : IsTopological g order) wh
   -- The tree that is composed for each process is its guard.
   -- It gives the activations, and being ordered by rank it is ordered along the order.
   pub composed_guards : (p : ℕ) → p < process_count g → IsGuardOf g order p (get_or whole p (Leaf Inactive))
-  composed_guards p h =
-      let made = all_composed.1 p h in
+  composed_guards p below =
+      let made = all_composed.1 p below in
       record {
         is = made.is;
         ordered = ordered_by_rank 0 (place order p) (get_or whole p (Leaf Inactive)) made.ranked;

@@ -41,7 +41,7 @@ module _ (g : Graph) (order : List ℕ) (topological : IsTopological g order) (f
   many cs o = sum_by (λ q. 1) (chosen g (all_values g) cs o)
 
   -- given: the standings of the processes before a place, the process at the place, and an outcome on the way
-  module _ (k p : ℕ) (s : List (Option Bool)) (are : AreSettled g order k s) (h : p < process_count g)
+  module _ (k p : ℕ) (s : List (Option Bool)) (are : AreSettled g order k s) (p_below : p < process_count g)
       (at : place order p ≡ k) (o : List Bool) (on : IsOnWay k s o) where
     -- the activation of the process
     abbrev here : Activation
@@ -51,9 +51,9 @@ module _ (g : Graph) (order : List ℕ) (topological : IsTopological g order) (f
     stays : IsOnWay (k + 1) (settled s (step_of g p) false) o
     stays = record {
       count = on.count;
-      follows = follows_on g order topological k s are p h few at false o on.follows
-          (λ c l e a. on.rest c l (let f = ap (place order) e in omega arith));
-      rest = λ c l m. on.rest c l (omega arith);
+      follows = follows_on g order topological k s are p p_below few at false o on.follows
+          (λ c c_below is_its acts. on.rest c c_below (let one_place = ap (place order) is_its in omega arith));
+      rest = λ c c_below from_next. on.rest c c_below (omega arith);
     }
 
     -- If the condition of the process becomes true, the changed outcome is on the way.
@@ -61,12 +61,14 @@ module _ (g : Graph) (order : List ℕ) (topological : IsTopological g order) (f
     turns : (c : ℕ) → condition_of g p ≡ Some c → IsOnWay (k + 1) (settled s (step_of g p) true) (set o c true)
     turns c its = record {
       count = length-set o c true ∙ on.count;
-      follows = follows_on g order topological k s are p h few at true (set o c true) moved
-          (λ d l e a.
-          subst (λ x. get_or (set o c true) x false ≡ true) (sym (same_condition g d c l within (e ∙ sym of_it)))
+      follows = follows_on g order topological k s are p p_below few at true (set o c true) moved
+          (λ d d_below is_its acts.
+          subst (λ x. get_or (set o c true) x false ≡ true)
+          (sym (same_condition g d c d_below within (is_its ∙ sym of_it)))
           (get_or-set_same o c true false (omega (arith, within, on.count))));
-      rest = λ d l m. get_or-set_other o c d true false (λ e. let f = ap (λ x. place order (process_of g x)) e in
-          let j = ap (place order) of_it in omega arith) ∙ on.rest d l (omega arith);
+      rest = λ d d_below from_next. get_or-set_other o c d true false
+          (λ is_its. let one_place = ap (λ x. place order (process_of g x)) is_its in
+          let its_place = ap (place order) of_it in omega arith) ∙ on.rest d d_below (omega arith);
     }
       where
         -- the condition is one of the graph
@@ -81,8 +83,9 @@ module _ (g : Graph) (order : List ℕ) (topological : IsTopological g order) (f
         moved : Follows g order k s (set o c true)
         moved = record {
           takes =
-              λ d l m v e. get_or-set_other o c d true false (λ x. let f = ap (λ y. place order (process_of g y)) x in
-              let j = ap (place order) of_it in omega arith) ∙ on.follows.takes d l m v e;
+              λ d d_below from_next v is_its. get_or-set_other o c d true false
+              (λ x. let one_place = ap (λ y. place order (process_of g y)) x in
+              let its_place = ap (place order) of_it in omega arith) ∙ on.follows.takes d d_below from_next v is_its;
         }
 
     -- the value of the process's condition is free exactly if the process is active
@@ -92,22 +95,22 @@ module _ (g : Graph) (order : List ℕ) (topological : IsTopological g order) (f
         (is_in_from (all_values g) (value_variable c) (Contains-map value_variable (numbers_below (condition_count g)) c
         (Contains-numbers (condition_count g) c (condition_of_below g p c its))))
         ∙ ap (active g o) (process_of_condition_of g p c its)
-        ∙ ap is_active (sym (activation_here g order topological k s are o on.follows p h at))
+        ∙ ap is_active (sym (activation_here g order topological k s are o on.follows p p_below at))
 
     -- The ways from here are those with the condition false, and those with it true.
     -- A process without a condition, or an inactive one, has one way; the outcomes that are chosen split in the same way.
     ways_here : (cs : List ℕ) (x : Option ℕ) → condition_of g p ≡ x → (m n : ℕ) → m ≡ many cs o →
         ((c : ℕ) → x ≡ Some c → n ≡ many cs (set o c true))
         → m + if_both (choice here x) n ≡ many (option_to_list x ++ cs) o
-    ways_here cs None its m n e f = ap (λ y. m + y) (none here) ∙ omega arith
+    ways_here cs None its m n is f = ap (λ y. m + y) (none here) ∙ omega arith
       where
         -- without a condition there is no second way, however the process is active
         none : (a : Activation) → if_both (choice a None) n ≡ 0
         none Inactive = refl
         none Plain = refl
         none (By i) = refl
-    ways_here cs (Some c) its m n e f =
-        ap₂ (λ y z. y + z) e (go here ∙ ap (λ b. if b then many cs (set o c true) else 0) (sym (free_here c its)))
+    ways_here cs (Some c) its m n is f =
+        ap₂ (λ y z. y + z) is (go here ∙ ap (λ b. if b then many cs (set o c true) else 0) (sym (free_here c its)))
         ∙ sym (sum_chosen g (all_values g) (λ q. 1) c cs o)
       where
         -- by how the process is active: only an active one has a second way
@@ -121,17 +124,19 @@ module _ (g : Graph) (order : List ℕ) (topological : IsTopological g order) (f
   counted : (ps : List ℕ) (k : ℕ) (s : List (Option Bool)) (o : List Bool) → drop k order ≡ ps →
       AreSettled g order k s → IsOnWay k s o
       → tracks_from (map (step_of g) ps) s ≡ many (conditions_along g ps) o
-  counted [] k s o e are on = refl
-  counted (p ∷ ps) k s o e are on =
-      let r = rest_first g order topological k p ps e in
-      let f = rest_more g order topological k p ps e in
-      ways_here k p s are r.0 r.1 o on (conditions_along g ps) (condition_of g p) refl
+  counted [] k s o rest_is are on = refl
+  counted (p ∷ ps) k s o rest_is are on =
+      let first_there = rest_first g order topological k p ps rest_is in
+      let rest_after = rest_more g order topological k p ps rest_is in
+      ways_here k p s are first_there.0 first_there.1 o on (conditions_along g ps) (condition_of g p) refl
       (tracks_from (map (step_of g) ps) (settled s (step_of g p) false))
       (tracks_from (map (step_of g) ps) (settled s (step_of g p) true))
-      (counted ps (k + 1) (settled s (step_of g p) false) o f
-      (settled_next g order topological k s are p r.0 few r.1 false) (stays k p s are r.0 r.1 o on))
-      (λ c its. counted ps (k + 1) (settled s (step_of g p) true) (set o c true) f
-      (settled_next g order topological k s are p r.0 few r.1 true) (turns k p s are r.0 r.1 o on c its))
+      (counted ps (k + 1) (settled s (step_of g p) false) o rest_after
+      (settled_next g order topological k s are p first_there.0 few first_there.1 false)
+      (stays k p s are first_there.0 first_there.1 o on))
+      (λ c its. counted ps (k + 1) (settled s (step_of g p) true) (set o c true) rest_after
+      (settled_next g order topological k s are p first_there.0 few first_there.1 true)
+      (turns k p s are first_there.0 first_there.1 o on c its))
 
   -- The ways along the steps of an order are as many as the graph has tracks.
   -- At the start no process is settled and all conditions are false; the outcomes chosen from there are the tracks.

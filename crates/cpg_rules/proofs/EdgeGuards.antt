@@ -74,30 +74,32 @@ module _ (g : Graph) (order : List ℕ) (topological : IsTopological g order) wh
       (w : Option Bool) →
       (edge_at g e).when ≡ w →
       is_passed (test_of x w) values ≡ takes w (value_of g values (source g e))
-  passed values e h None is None when = refl
-  passed values e h (Some c) is None when = refl
-  passed values e h None is (Some v) when =
-      let d = condition_of_edge g e v h (source_in_order g order topological e h) when in
-      let there : condition_of g (source g e) ≡ Some d.0 =
-      subst (λ q. condition_of g q ≡ Some d.0) d.2 (condition_of_process_of g d.0 d.1) in
-      let never : None ≡ Some d.0 = sym is ∙ there in cc
-  passed values e h (Some c) is (Some v) when = ap (λ x. same_bool v (get_or values (unwrap_or x 0) false)) (sym is)
+  passed values e edge_below None is None when = refl
+  passed values e edge_below (Some c) is None when = refl
+  passed values e edge_below None is (Some v) when =
+      let its_condition = condition_of_edge g e v edge_below (source_in_order g order topological e edge_below) when in
+      let there : condition_of g (source g e) ≡ Some its_condition.0 =
+      subst (λ q. condition_of g q ≡ Some its_condition.0) its_condition.2
+      (condition_of_process_of g its_condition.0 its_condition.1) in
+      let never : None ≡ Some its_condition.0 = sym is ∙ there in cc
+  passed values e edge_below (Some c) is (Some v) when = ap (λ x. same_bool v (get_or values (unwrap_or x 0) false))
+      (sym is)
 
   -- given: the guards of the graph, and an outcome
   module _ (guards : Guards) (are : AreGuardsOf g order guards) (values : List Bool)
       (long : length values ≡ condition_count g) where
     -- a process is active by its tree exactly if it is active
     pub active_by-is : (p : ℕ) → p < process_count g → active_by guards values p ≡ active g values p
-    active_by-is p h = ap is_active ((are.trees p h).is values long)
+    active_by-is p p_below = ap is_active ((are.trees p p_below).is values long)
 
     -- an edge is live by its guard exactly if it is live
     pub live_by-is : (e : ℕ) → e < edge_count g → live_by guards values e ≡ live g values e
-    live_by-is e h =
+    live_by-is e e_below =
         ap (λ x. active_by guards values x.source && is_passed x.test values)
         (ap (λ xs. get_or xs e (record { source = 0; test = None })) are.edges
-        ∙ get_or-map-below (edge_guard_of g) (edge_count g) e (record { source = 0; test = None }) h)
-        ∙ ap₂ ◌&&◌ (active_by-is (source g e) (source_in_order g order topological e h))
-        (passed values e h (condition_of g (source g e)) refl (edge_at g e).when refl)
+        ∙ get_or-map-below (edge_guard_of g) (edge_count g) e (record { source = 0; test = None }) e_below)
+        ∙ ap₂ ◌&&◌ (active_by-is (source g e) (source_in_order g order topological e e_below))
+        (passed values e e_below (condition_of g (source g e)) refl (edge_at g e).when refl)
 
 -- there is a guard for each edge
 pub length-edges : (g : Graph) (order : List ℕ) (guards : Guards) → AreGuardsOf g order guards →

@@ -8,16 +8,16 @@ use Rattle.cpg_rules.specs.Trees.{same_guard}
 -- Trees that pass the comparison are equal.
 -- By induction on both trees.
 pub same_guard-is : (s t : Guard) → same_guard s t ≡ true → s ≡ t
-same_guard-is (Leaf a) (Leaf b) h = ap Leaf (same_activation_is a b h)
-same_guard-is (Leaf a) (Test d low high) h = cc
-same_guard-is (Test c off on) (Leaf b) h = cc
-same_guard-is (Test c off on) (Test d low high) h =
-    let r = and_parts (c == d) (same_guard off low && same_guard on high) h in
-    let q = and_parts (same_guard off low) (same_guard on high) r.1 in
-    let e = eqb-true c d r.0 in
-    let f = same_guard-is off low q.0 in
-    let j = same_guard-is on high q.1 in
-    λ i. Test (e i) (f i) (j i)
+same_guard-is (Leaf a) (Leaf b) compared = ap Leaf (same_activation_is a b compared)
+same_guard-is (Leaf a) (Test d low high) compared = cc
+same_guard-is (Test c off on) (Leaf b) compared = cc
+same_guard-is (Test c off on) (Test d low high) compared =
+    let top_and_sides = and_parts (c == d) (same_guard off low && same_guard on high) compared in
+    let sides = and_parts (same_guard off low) (same_guard on high) top_and_sides.1 in
+    let same_condition = eqb-true c d top_and_sides.0 in
+    let same_off = same_guard-is off low sides.0 in
+    let same_on = same_guard-is on high sides.1 in
+    λ i. Test (same_condition i) (same_off i) (same_on i)
 
 -- each tree passes the comparison with itself
 pub same_guard-refl : (t : Guard) → same_guard t t ≡ true

@@ -28,39 +28,39 @@ use Rattle.cpg_rules.specs.Guards.{Guards, tree_of, AreGuardsOf}
 -- a graph within its limits stays so with another fault number in range; no other limit looks at that number
 pub limits_same : (g : Graph) (faults : ℕ) → IsWithinLimits g → faults ≤ MOST_FAULTS →
     IsWithinLimits (with_fault_number g faults)
-limits_same g faults w few = record {
+limits_same g faults limits few = record {
   faults = few;
-  deadline = w.deadline;
-  few_nodes = w.few_nodes;
-  few_slots = w.few_slots;
-  few_processes = w.few_processes;
-  few_edges = w.few_edges;
-  few_conditions = w.few_conditions;
-  slots = w.slots;
-  processes = w.processes;
-  edges = w.edges;
-  node_names = w.node_names;
-  process_names = w.process_names;
-  own_slots = w.own_slots;
-  order = w.order;
+  deadline = limits.deadline;
+  few_nodes = limits.few_nodes;
+  few_slots = limits.few_slots;
+  few_processes = limits.few_processes;
+  few_edges = limits.few_edges;
+  few_conditions = limits.few_conditions;
+  slots = limits.slots;
+  processes = limits.processes;
+  edges = limits.edges;
+  node_names = limits.node_names;
+  process_names = limits.process_names;
+  own_slots = limits.own_slots;
+  order = limits.order;
 }
 
 -- a graph within its limits stays so without its order; no other limit looks at the order
 pub orderless_within : (g : Graph) → IsWithinLimits g → IsWithinLimits (record g { order = None })
-orderless_within g w = record {
-  faults = w.faults;
-  deadline = w.deadline;
-  few_nodes = w.few_nodes;
-  few_slots = w.few_slots;
-  few_processes = w.few_processes;
-  few_edges = w.few_edges;
-  few_conditions = w.few_conditions;
-  slots = w.slots;
-  processes = w.processes;
-  edges = w.edges;
-  node_names = w.node_names;
-  process_names = w.process_names;
-  own_slots = w.own_slots;
+orderless_within g limits = record {
+  faults = limits.faults;
+  deadline = limits.deadline;
+  few_nodes = limits.few_nodes;
+  few_slots = limits.few_slots;
+  few_processes = limits.few_processes;
+  few_edges = limits.few_edges;
+  few_conditions = limits.few_conditions;
+  slots = limits.slots;
+  processes = limits.processes;
+  edges = limits.edges;
+  node_names = limits.node_names;
+  process_names = limits.process_names;
+  own_slots = limits.own_slots;
   order = tt;
 }
 
@@ -68,8 +68,8 @@ orderless_within g w = record {
 pub of_view : {X Y : Type 0} (f : X → Y) (P : Y → Type 0) (r : Option X) (o : Option Y) → option_map f r ≡ o →
     IfSome o P →
     IfSome r (λ x. P (f x))
-of_view f P None o e h = tt
-of_view f P (Some x) o e h = subst (λ q. IfSome q P) (sym e) h
+of_view f P None o is h = tt
+of_view f P (Some x) o is h = subst (λ q. IfSome q P) (sym is) h
 
 -- given: a graph g, and the fault number that it gets
 module _ (g : Graph) (faults : ℕ) where
@@ -147,10 +147,12 @@ module _ (g : Graph) (faults : ℕ) where
   urgency_same : (order : List ℕ) → IsUrgencyOrder g order → IsUrgencyOrder h order
   urgency_same order urgent = record {
     all = urgent.all;
-    falling = λ i j d before l. (let p = get_or order i d in let q = get_or order j d in
-        subst (λ n. IsTrue (nat_lt n (tail h p) || ((tail h p == n) && nat_lt p q))) (sym (tail_same q))
-        (subst (λ n. IsTrue (nat_lt (tail g q) n || ((n == tail g q) && nat_lt p q))) (sym (tail_same p))
-        (urgent.falling i j d before l)));
+    falling = λ i j d before inside. (let first = get_or order i d in let second = get_or order j d in
+        subst (λ n. IsTrue (nat_lt n (tail h first) || ((tail h first == n) && nat_lt first second)))
+        (sym (tail_same second))
+        (subst (λ n. IsTrue (nat_lt (tail g second) n || ((n == tail g second) && nat_lt first second)))
+        (sym (tail_same first))
+        (urgent.falling i j d before inside)));
   }
 
   -- ---- guards

@@ -23,31 +23,33 @@ use Rattle.cpg_rules.specs.Given.{GivesTopological, LacksNone, IsLacking, is_ear
 
 -- an edge is an input of its target
 input_of_target : (g : Graph) (e : ℕ) → e < edge_count g → Contains (inputs g (target g e)) e
-input_of_target g e l =
+input_of_target g e below =
     Contains-filter (λ f. target g f == target g e) (numbers_below (edge_count g)) e
-    (eq-eqb (target g e) (target g e) refl) (Contains-numbers (edge_count g) e l)
+    (eq-eqb (target g e) (target g e) refl) (Contains-numbers (edge_count g) e below)
 
 -- given: a graph, and a list of numbers that may be an order of its processes
 module _ (g : Graph) (list : List ℕ) where
   -- a list that lacks none has each process
   there : LacksNone g list → (p : ℕ) → p < process_count g → Contains list p
-  there all p l = let r = list_any_parts (λ q. q == p) list (all p l) in subst (Contains list) (eqb-true r.0 p r.2) r.1
+  there all p below =
+      let found = list_any_parts (λ q. q == p) list (all p below) in
+      subst (Contains list) (eqb-true found.0 p found.2) found.1
 
   -- ---- edge by edge
 
   -- a process that stands before the source of one of its inputs is early
   pub early_by : (p e : ℕ) → e < edge_count g → target g e ≡ p → comes_before list p (source g e) ≡ true →
       is_early g list p ≡ true
-  early_by p e l at before =
+  early_by p e below at before =
       list_any_true (λ f. comes_before list p (source g f)) (inputs g p) e
-      (subst (λ q. Contains (inputs g q) e) at (input_of_target g e l)) before
+      (subst (λ q. Contains (inputs g q) e) at (input_of_target g e below)) before
 
   -- a process that stands before no source of its inputs isn't early
   pub early_by_none : (p : ℕ) →
       ((e : ℕ) → e < edge_count g → target g e ≡ p → comes_before list p (source g e) ≡ false) →
       is_early g list p ≡ false
   early_by_none p none = list_any_false (λ f. comes_before list p (source g f)) (inputs g p)
-      (λ e c. let r = inputs_parts g p e c in none e r.0 r.1)
+      (λ e among. let parts = inputs_parts g p e among in none e parts.0 parts.1)
 
   -- ---- place by place
 
@@ -55,12 +57,12 @@ module _ (g : Graph) (list : List ℕ) where
   module _ (lawful : IsOrder list) (long : length list ≡ process_count g) where
     -- each process is in the list
     in_list : (p : ℕ) → p < process_count g → Contains list p
-    in_list p l = Contains-order (length list) list lawful.all p (omega (arith, long, l))
+    in_list p below = Contains-order (length list) list lawful.all p (omega (arith, long, below))
 
     -- what stands in the list is a process of the graph
     pub at_place : (i : ℕ) → i < length list → get_or list i 0 < process_count g
-    at_place i l =
-        let below = from_order (length list) list lawful.all (get_or list i 0) (Contains-get_or list i 0 l) in
+    at_place i i_below =
+        let below = from_order (length list) list lawful.all (get_or list i 0) (Contains-get_or list i 0 i_below) in
         omega (arith, below, long)
 
     -- The first early process that is found in the list is the first early one.
@@ -68,9 +70,9 @@ module _ (g : Graph) (list : List ℕ) where
     pub early_first : (i : ℕ) → i < length list → ((q : ℕ) → Contains (take i list) q → is_early g list q ≡ false) →
         is_early g list (get_or list i 0) ≡ true →
         IsFirstEarly g list (get_or list i 0)
-    early_first i l before early = record {
+    early_first i inside before early = record {
       all = λ p m. is_in_from list p (in_list p m);
-      within = at_place i l;
+      within = at_place i inside;
       early = early;
       before = λ q earlier. before q (taken q earlier);
     }
@@ -78,20 +80,21 @@ module _ (g : Graph) (list : List ℕ) where
         -- what comes before the process at place i is among the first i
         taken : (q : ℕ) → comes_before list q (get_or list i 0) ≡ true → Contains (take i list) q
         taken q earlier =
-            let c = before_contains list q (get_or list i 0) earlier in
+            let has_q = before_contains list q (get_or list i 0) earlier in
             let first = places_from_comes_before list q (get_or list i 0) earlier in
-            let here = place-le list (get_or list i 0) i l (get_or_default list i (get_or list i 0) 0 l) in
+            let here = place-le list (get_or list i 0) i inside (get_or_default list i (get_or list i 0) 0 inside) in
             let cut = length-take i list in (
               place list q,
-              omega (arith, first, here, l, cut),
-              get_or-take i list (place list q) q (omega (arith, first, here)) ∙ get_or-place list q q c,
+              omega (arith, first, here, inside, cut),
+              get_or-take i list (place list q) q (omega (arith, first, here)) ∙ get_or-place list q q has_q,
             )
 
     -- if no process up to the end of the list is early, none is
     pub early_nowhere : (i : ℕ) → length list ≤ i → ((q : ℕ) → Contains (take i list) q → is_early g list q ≡ false) →
         (p : ℕ) → p < process_count g →
         is_early g list p ≡ false
-    early_nowhere i past before p l = before p (subst (λ xs. Contains xs p) (sym (take_all i list past)) (in_list p l))
+    early_nowhere i past before p below = before p
+        (subst (λ xs. Contains xs p) (sym (take_all i list past)) (in_list p below))
 
   -- ---- a list that shows none is topological
 
@@ -126,15 +129,16 @@ module _ (g : Graph) (list : List ℕ) where
       where
         -- along each edge the source comes before the target
         first : (e : ℕ) → e < edge_count g → comes_before list (source g e) (target g e) ≡ true
-        first e l =
-            let ends = limits.edges e _ l in
-            let up = edge_goes_up g order topological e l in
+        first e below =
+            let ends = limits.edges e _ below in
+            let up = edge_goes_up g order topological e below in
             elim (apart list (source g e) (target g e) (there all (source g e) ends.from)
-            (there all (target g e) ends.to) (λ same. let s = ap (place order) same in omega (arith, up, s))) [
+            (there all (target g e) ends.to) (λ same. let same_place = ap (place order) same in omega
+            (arith, up, same_place))) [
               | inl c ↦ comes_before_from list (source g e) (target g e) c
               | inr c ↦ absurd (both_ways (comes_before list (target g e) (source g e))
                   (from_any_false (λ f. comes_before list (target g e) (source g f)) (inputs g (target g e)) e
-                  (late (target g e) ends.to) (input_of_target g e l))
+                  (late (target g e) ends.to) (input_of_target g e below))
                   (comes_before_from list (target g e) (source g e) c))
             ]
 
@@ -146,9 +150,9 @@ module _ (g : Graph) (list : List ℕ) where
   none_bad topological p (inl lacking) = both_ways (is_in list p) lacking.lacks
       (is_in_from list p (Contains-order (process_count g) list topological.all p lacking.within))
   none_bad topological p (inr early) =
-      let r = list_any_parts (λ e. comes_before list p (source g e)) (inputs g p) early.early in
-      let up = input_goes_up g list topological p r.0 r.1 in
-      let down = places_from_comes_before list p (source g r.0) r.2 in
+      let later_source = list_any_parts (λ e. comes_before list p (source g e)) (inputs g p) early.early in
+      let up = input_goes_up g list topological p later_source.0 later_source.1 in
+      let down = places_from_comes_before list p (source g later_source.0) later_source.2 in
       omega (arith, up, down)
 
   -- ---- one process at most shows it
@@ -157,10 +161,10 @@ module _ (g : Graph) (list : List ℕ) where
   -- Of two different ones the lesser would be lacking before the other.
   one_lacking : (p q : ℕ) → IsLacking g list p → IsLacking g list q → p ≡ q
   one_lacking p q a b = elim (cases_lt p q) [
-    | inl l ↦ absurd (both_ways (is_in list p) a.lacks (b.before p l))
-    | inr m ↦ elim (cases_lt q p) [
-      | inl l ↦ absurd (both_ways (is_in list q) b.lacks (a.before q l))
-      | inr n ↦ omega (arith, m, n)
+    | inl less ↦ absurd (both_ways (is_in list p) a.lacks (b.before p less))
+    | inr at_least ↦ elim (cases_lt q p) [
+      | inl less ↦ absurd (both_ways (is_in list q) b.lacks (a.before q less))
+      | inr not_less ↦ omega (arith, at_least, not_less)
     ]
   ]
 

@@ -24,12 +24,12 @@ module _ (g : Graph) (edges : List Edge) (are : edges ≡ g.edges) (p n : ℕ) (
   pub one_more : (ys : List Input) → here.to ≡ p →
       ys ≡ xs ++ (record { edge = n; source = here.from; when = here.when }) ∷ [] →
       ys ≡ map (input_of g) (filter (λ e. target g e == p) (numbers_below (n + 1)))
-  one_more ys h is = collects (input_of g) (λ e. target g e == p) xs ys
+  one_more ys p_is is = collects (input_of g) (λ e. target g e == p) xs ys
       (record { edge = n; source = here.from; when = here.when }) n so_far
-      (eq-eqb (target g n) p (ap (λ (d : Edge). d.to) (sym at) ∙ h))
+      (eq-eqb (target g n) p (ap (λ (d : Edge). d.to) (sym at) ∙ p_is))
       (ap (λ (d : Edge). let i : Input = record { edge = n; source = d.from; when = d.when } in i) at) is
 
   -- an edge that doesn't lead to the process is no input of it
   pub none_more : here.to ≢ p → xs ≡ map (input_of g) (filter (λ e. target g e == p) (numbers_below (n + 1)))
-  none_more h = passes_over (input_of g) (λ e. target g e == p) xs n so_far
-      (ne_eqb (target g n) p (λ e. h (ap (λ (d : Edge). d.to) at ∙ e)))
+  none_more differ = passes_over (input_of g) (λ e. target g e == p) xs n so_far
+      (ne_eqb (target g n) p (λ e. differ (ap (λ (d : Edge). d.to) at ∙ e)))

@@ -31,15 +31,15 @@ module _ (o : List Bool) where
     where
       -- with equal sides it doesn't matter which one is taken
       one_tree : off ≡ on → (v : Bool) → outcome_at off o ≡ (if v then outcome_at on o else outcome_at off o)
-      one_tree e true = ap (λ t. outcome_at t o) e
-      one_tree e false = refl
+      one_tree same true = ap (λ t. outcome_at t o) same
+      one_tree same false = refl
 
       -- by whether the sides are equal, so that no test is made
       go : (b : Bool) → same_guard off on ≡ b →
           outcome_at (if b then off else Test c off on) o
           ≡ (if get_or o c false then outcome_at on o else outcome_at off o)
-      go true e = one_tree (same_guard-is off on e) (get_or o c false)
-      go false e = refl
+      go true is = one_tree (same_guard-is off on is) (get_or o c false)
+      go false is = refl
 
   -- the tree of a test gives the activation exactly if the test passes
   passing_at : (a : Activation) (x : Option ValueTest) →
@@ -85,8 +85,8 @@ module _ (o : List Bool) where
           → outcome_at (live_tree a x on) o ≡ (if is_active (outcome_at on o) && is_passed x o then a else Inactive)
           → (if v then outcome_at (live_tree a x on) o else outcome_at (live_tree a x off) o)
           ≡ (if is_active (if v then outcome_at on o else outcome_at off o) && is_passed x o then a else Inactive)
-      go true h k = k
-      go false h k = h
+      go true a_is k = k
+      go false a_is k = a_is
 
   -- given: whether the trees are met for a join, and the ranks of the conditions
   module _ (join : Bool) (ranks : List ℕ) where
@@ -110,18 +110,18 @@ module _ (o : List Bool) where
       at_once : (d : ℕ) (s t : Guard) → c ≡ d → (v : Bool) → get_or o c false ≡ v
           → (if v then outcome_at (on t) o else outcome_at (off s) o) ≡ first_settling join (if v then high else low)
           (if get_or o d false then outcome_at t o else outcome_at s o)
-      at_once d s t e true is =
+      at_once d s t same true is =
           at_on t ∙ ap (λ w. first_settling join high (if w then outcome_at t o else outcome_at s o))
-          (sym is ∙ ap (λ x. get_or o x false) e)
-      at_once d s t e false is =
+          (sym is ∙ ap (λ x. get_or o x false) same)
+      at_once d s t same false is =
           at_off s ∙ ap (λ w. first_settling join low (if w then outcome_at t o else outcome_at s o))
-          (sym is ∙ ap (λ x. get_or o x false) e)
+          (sym is ∙ ap (λ x. get_or o x false) same)
 
       -- if both sides come to what settles, so does the value's
       sooner : (x y p q : Activation) → x ≡ first_settling join mine p → y ≡ first_settling join mine q → (w : Bool) →
           (if w then y else x) ≡ first_settling join mine (if w then q else p)
-      sooner x y p q h k true = k
-      sooner x y p q h k false = h
+      sooner x y p q x_is y_is true = y_is
+      sooner x y p q x_is y_is false = x_is
 
       -- A tree that goes against another comes to what settles of both.
       -- By induction on the second tree, in the three cases of `against`: the same condition, an earlier one, a later one.
@@ -136,11 +136,12 @@ module _ (o : List Bool) where
               → outcome_at (if a then tested c (off s) (on t) else (if b then tested d (against ranks c off on s)
               (against ranks c off on t) else tested c (off (Test d s t)) (on (Test d s t)))) o
               ≡ first_settling join mine (if get_or o d false then outcome_at t o else outcome_at s o)
-          go true b e h k = tested_at c (off s) (on t) ∙ at_once d s t (eqb-true c d e) (get_or o c false) refl
-          go false true e h k = tested_at d (against ranks c off on s) (against ranks c off on t)
+          go true b c_is h k = tested_at c (off s) (on t) ∙ at_once d s t (eqb-true c d c_is) (get_or o c false) refl
+          go false true c_is h k = tested_at d (against ranks c off on s) (against ranks c off on t)
               ∙ sooner (outcome_at (against ranks c off on s) o) (outcome_at (against ranks c off on t) o)
               (outcome_at s o) (outcome_at t o) h k (get_or o d false)
-          go false false e h k = tested_at c (off (Test d s t)) (on (Test d s t)) ∙ own (Test d s t) (get_or o c false)
+          go false false c_is h k = tested_at c (off (Test d s t)) (on (Test d s t)) ∙ own (Test d s t)
+              (get_or o c false)
 
     -- Two trees that are walked down together give the first activation if it settles the matter, or else the second.
     -- By induction on the first tree: a leaf settles or doesn't, and a test goes against the second tree.
@@ -167,19 +168,20 @@ IsRanked ranks k m (Test c off on) = (c < length ranks) × (k ≤ rank ranks c) 
 module _ (ranks : List ℕ) where
   -- a tree with ranks from a number on has them from each lower number on
   ranked_from : (k l m : ℕ) (t : Guard) → k ≤ l → IsRanked ranks l m t → IsRanked ranks k m t
-  ranked_from k l m (Leaf a) h r = tt
-  ranked_from k l m (Test c off on) h r = (r.0, (let a = r.1 in omega arith), r.2, r.3, r.4)
+  ranked_from k l m (Leaf a) lower ranked = tt
+  ranked_from k l m (Test c off on) lower ranked =
+      (ranked.0, (let a = ranked.1 in omega arith), ranked.2, ranked.3, ranked.4)
 
   -- A tree with ranks below a bound has them below each greater bound.
   -- By induction on the tree.
   pub ranked_to : (k m n : ℕ) (t : Guard) → m ≤ n → IsRanked ranks k m t → IsRanked ranks k n t
-  ranked_to k m n (Leaf a) h r = tt
-  ranked_to k m n (Test c off on) h r = (
-    r.0,
-    r.1,
-    (let a = r.2 in omega arith),
-    ranked_to (rank ranks c + 1) m n off h r.3,
-    ranked_to (rank ranks c + 1) m n on h r.4,
+  ranked_to k m n (Leaf a) no_more ranked = tt
+  ranked_to k m n (Test c off on) no_more ranked = (
+    ranked.0,
+    ranked.1,
+    (let below_m = ranked.2 in omega arith),
+    ranked_to (rank ranks c + 1) m n off no_more ranked.3,
+    ranked_to (rank ranks c + 1) m n on no_more ranked.4,
   )
 
   -- a test of trees with later ranks is ordered by rank
@@ -187,12 +189,12 @@ module _ (ranks : List ℕ) where
       IsRanked ranks (rank ranks c + 1) m off →
       IsRanked ranks (rank ranks c + 1) m on
       → IsRanked ranks k m (tested c off on)
-  tested_ranked k m c off on within h l r q = go (same_guard off on)
+  tested_ranked k m c off on within rank_from rank_below off_ranked on_ranked = go (same_guard off on)
     where
       -- by whether the sides are equal, so that no test is made
       go : (b : Bool) → IsRanked ranks k m (if b then off else Test c off on)
-      go true = ranked_from k (rank ranks c + 1) m off (omega arith) r
-      go false = (within, h, l, r, q)
+      go true = ranked_from k (rank ranks c + 1) m off (omega arith) off_ranked
+      go false = (within, rank_from, rank_below, off_ranked, on_ranked)
 
   -- a test, if there is one, comes after the tests with ranks below m, and its rank is below n
   pub record IsRankedTest (m n : ℕ) (x : Option ValueTest) : Type 0 where
@@ -206,36 +208,38 @@ module _ (ranks : List ℕ) where
   -- the tree of a test is ordered by rank
   passing_ranked : (k m n : ℕ) (a : Activation) (x : Option ValueTest) → IsRankedTest m n x → k ≤ m →
       IsRanked ranks k n (passing a x)
-  passing_ranked k m n a None r h = tt
-  passing_ranked k m n a (Some t) r h = go t.value
+  passing_ranked k m n a None test_ranked at_most = tt
+  passing_ranked k m n a (Some t) test_ranked at_most = go t.value
     where
       -- the rank of the test is at least k, since k is at most m
       low : k ≤ rank ranks t.condition
-      low = let f = r.from t refl in omega arith
+      low = let test_from = test_ranked.from t refl in omega arith
 
       -- by the value that the test asks for
       go : (w : Bool) →
           IsRanked ranks k n
           (if w then tested t.condition (Leaf Inactive) (Leaf a) else tested t.condition (Leaf a) (Leaf Inactive))
-      go true = tested_ranked k n t.condition (Leaf Inactive) (Leaf a) (r.within t refl) low (r.to t refl) tt tt
-      go false = tested_ranked k n t.condition (Leaf a) (Leaf Inactive) (r.within t refl) low (r.to t refl) tt tt
+      go true = tested_ranked k n t.condition (Leaf Inactive) (Leaf a)
+          (test_ranked.within t refl) low (test_ranked.to t refl) tt tt
+      go false = tested_ranked k n t.condition (Leaf a) (Leaf Inactive)
+          (test_ranked.within t refl) low (test_ranked.to t refl) tt tt
 
   -- The tree of an input is ordered by rank, if its test comes after those of the source.
   -- By induction on the source's tree: at a leaf stands the input's own test, with a rank above those on the way.
   pub live_tree_ranked : (k m n : ℕ) (a : Activation) (x : Option ValueTest) (t : Guard) → IsRankedTest m n x → k ≤ m →
       m ≤ n → IsRanked ranks k m t →
       IsRanked ranks k n (live_tree a x t)
-  live_tree_ranked k m n a x (Leaf b) r h l s = go (is_active b)
+  live_tree_ranked k m n a x (Leaf b) r k_at_most m_at_most ranked = go (is_active b)
     where
       -- by whether the leaf is active
       go : (v : Bool) → IsRanked ranks k n (if v then passing a x else Leaf Inactive)
-      go true = passing_ranked k m n a x r h
+      go true = passing_ranked k m n a x r k_at_most
       go false = tt
-  live_tree_ranked k m n a x (Test c off on) r h l s =
-      let below : rank ranks c < m = s.2 in
-      tested_ranked k n c (live_tree a x off) (live_tree a x on) s.0 s.1 (omega arith)
-      (live_tree_ranked (rank ranks c + 1) m n a x off r (omega arith) l s.3)
-      (live_tree_ranked (rank ranks c + 1) m n a x on r (omega arith) l s.4)
+  live_tree_ranked k m n a x (Test c off on) r k_at_most m_at_most ranked =
+      let below : rank ranks c < m = ranked.2 in
+      tested_ranked k n c (live_tree a x off) (live_tree a x on) ranked.0 ranked.1 (omega arith)
+      (live_tree_ranked (rank ranks c + 1) m n a x off r (omega arith) m_at_most ranked.3)
+      (live_tree_ranked (rank ranks c + 1) m n a x on r (omega arith) m_at_most ranked.4)
 
   -- given: different conditions have different ranks (`apart`), and a number m below which ranks are to stay
   module _ (apart : (c d : ℕ) → c < length ranks → d < length ranks → rank ranks c ≡ rank ranks d → c ≡ d) (m : ℕ) where
@@ -248,10 +252,11 @@ module _ (ranks : List ℕ) where
       -- a tree that goes against another tests in the order of the ranks
       against_ranked : (k : ℕ) (t : Guard) → k ≤ rank ranks c → IsRanked ranks k m t →
           IsRanked ranks k m (against ranks c off on t)
-      against_ranked k (Leaf b) h r =
-          tested_ranked k m c (off (Leaf b)) (on (Leaf b)) within h below (of_off (Leaf b) tt) (of_on (Leaf b) tt)
-      against_ranked k (Test d s t) h r = go (c == d) (nat_lt (rank ranks d) (rank ranks c)) refl refl
-          (λ l. against_ranked (rank ranks d + 1) s l r.3) (λ l. against_ranked (rank ranks d + 1) t l r.4)
+      against_ranked k (Leaf b) rank_from ranked =
+          tested_ranked k m c (off (Leaf b)) (on (Leaf b)) within rank_from below (of_off (Leaf b) tt)
+          (of_on (Leaf b) tt)
+      against_ranked k (Test d s t) rank_from ranked = go (c == d) (nat_lt (rank ranks d) (rank ranks c)) refl refl
+          (λ l. against_ranked (rank ranks d + 1) s l ranked.3) (λ l. against_ranked (rank ranks d + 1) t l ranked.4)
         where
           -- by whether both test the same condition, and otherwise by which test is of the earlier one
           go : (a b : Bool) → (c == d) ≡ a → nat_lt (rank ranks d) (rank ranks c) ≡ b
@@ -260,36 +265,40 @@ module _ (ranks : List ℕ) where
               → IsRanked ranks k m (if a then tested c (off s) (on t) else
               (if b then tested d (against ranks c off on s) (against ranks c off on t)
               else tested c (off (Test d s t)) (on (Test d s t))))
-          go true b e f low high =
-              let same = eqb-true c d e in
-              tested_ranked k m c (off s) (on t) within h below
-              (of_off s (subst (λ x. IsRanked ranks (rank ranks x + 1) m s) (sym same) r.3))
-              (of_on t (subst (λ x. IsRanked ranks (rank ranks x + 1) m t) (sym same) r.4))
-          go false true e f low high =
-              let l : rank ranks d < rank ranks c = ltb-true (rank ranks d) (rank ranks c) f in
-              tested_ranked k m d (against ranks c off on s) (against ranks c off on t) r.0 r.1 r.2 (low (omega arith))
+          go true b same_test which_first low high =
+              let same = eqb-true c d same_test in
+              tested_ranked k m c (off s) (on t) within rank_from below
+              (of_off s (subst (λ x. IsRanked ranks (rank ranks x + 1) m s) (sym same) ranked.3))
+              (of_on t (subst (λ x. IsRanked ranks (rank ranks x + 1) m t) (sym same) ranked.4))
+          go false true same_test which_first low high =
+              let rank_order : rank ranks d < rank ranks c = ltb-true (rank ranks d) (rank ranks c) which_first in
+              tested_ranked k m d (against ranks c off on s) (against ranks c off on t) ranked.0 ranked.1 ranked.2
+              (low (omega arith))
               (high (omega arith))
-          go false false e f low high =
-              let l : rank ranks c ≤ rank ranks d = ltb-false (rank ranks d) (rank ranks c) f in
-              let differ : rank ranks c ≢ rank ranks d = λ same. eqb-false c d e (apart c d within r.0 same) in
+          go false false same_test which_first low high =
+              let rank_order : rank ranks c ≤ rank ranks d = ltb-false (rank ranks d) (rank ranks c) which_first in
+              let differ : rank ranks c ≢ rank ranks d = λ same. eqb-false c d same_test
+              (apart c d within ranked.0 same) in
               let later : IsRanked ranks (rank ranks c + 1) m (Test d s t) =
-              (r.0, omega (arith, differ), r.2, r.3, r.4) in
-              tested_ranked k m c (off (Test d s t)) (on (Test d s t)) within h below (of_off (Test d s t) later)
+              (ranked.0, omega (arith, differ), ranked.2, ranked.3, ranked.4) in
+              tested_ranked k m c (off (Test d s t)) (on (Test d s t)) within rank_from below
+              (of_off (Test d s t) later)
               (of_on (Test d s t) later)
 
     -- Two trees that are walked down together are ordered by rank.
     -- By induction on the first tree, since of two tests the one of lower rank comes first.
     pub met_ranked : (join : Bool) (k : ℕ) (s t : Guard) → IsRanked ranks k m s → IsRanked ranks k m t →
         IsRanked ranks k m (met join ranks s t)
-    met_ranked join k (Leaf a) t r q = go (settles join a)
+    met_ranked join k (Leaf a) t k_ranked q = go (settles join a)
       where
         -- by whether the leaf settles the matter
         go : (v : Bool) → IsRanked ranks k m (if v then Leaf a else t)
         go true = tt
         go false = q
-    met_ranked join k (Test c off on) t r q = against_ranked c r.0 r.2 (met join ranks off) (met join ranks on)
-        (λ u h. met_ranked join (rank ranks c + 1) off u r.3 h)
-        (λ u h. met_ranked join (rank ranks c + 1) on u r.4 h) k t r.1 q
+    met_ranked join k (Test c off on) t k_ranked q = against_ranked c k_ranked.0 k_ranked.2 (met join ranks off)
+        (met join ranks on)
+        (λ u h. met_ranked join (rank ranks c + 1) off u k_ranked.3 h)
+        (λ u h. met_ranked join (rank ranks c + 1) on u k_ranked.4 h) k t k_ranked.1 q
 
 -- ---- they are reduced
 
@@ -299,9 +308,9 @@ tested_reduced c off on h j = go (same_guard off on) refl
   where
     -- by whether the sides are equal, so that no test is made
     go : (b : Bool) → same_guard off on ≡ b → IsReduced (if b then off else Test c off on)
-    go true e = h
-    go false e = (
-      λ same. both_ways (same_guard off on) e (subst (λ t. same_guard off t ≡ true) same (same_guard-refl off)),
+    go true is = h
+    go false is = (
+      λ same. both_ways (same_guard off on) is (subst (λ t. same_guard off t ≡ true) same (same_guard-refl off)),
       h,
       j,
     )

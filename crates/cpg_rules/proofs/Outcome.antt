@@ -33,4 +33,4 @@ single_joins g h = λ p values l join long. few (length (filter (live g values) 
   where
     -- a count that isn't above 1 is at most 1
     few : (n : ℕ) → nat_lt 1 n ≡ false → n ≤ 1
-    few n e = ltb-false 1 n e
+    few n is_false = ltb-false 1 n is_false

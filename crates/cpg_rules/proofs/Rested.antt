@@ -32,8 +32,8 @@ use Rattle.cpg_rules.proofs.Searched.{search_none, search_some}
 
 -- no truth value is both true and false
 true_false : (a : Bool) → a ≡ true → a ≡ false → ⊥
-true_false true h k = cc
-true_false false h k = cc
+true_false true is_true is_false = cc
+true_false false is_true is_false = cc
 
 -- ---- inputs whose sources stand alike
 
@@ -97,14 +97,14 @@ set_alike : (s u : List (Option Bool)) (p q : ℕ) (x : Option Bool) → length 
     get_or s q None ≡ get_or u q None →
     get_or (set s p x) q None ≡ get_or (set u p x) q None
 set_alike s u p q x long same = elim (cases_eq q p) [
-  | inl e ↦ elim (cases_lt p (length s)) [
-    | inl l ↦ subst (λ r. get_or (set s p x) r None ≡ get_or (set u p x) r None) (sym e)
-        (get_or-set_same s p x None l ∙ sym (get_or-set_same u p x None (omega (arith, long))))
-    | inr l ↦ subst (λ r. get_or (set s p x) r None ≡ get_or (set u p x) r None) (sym e)
+  | inl equal ↦ elim (cases_lt p (length s)) [
+    | inl less ↦ subst (λ r. get_or (set s p x) r None ≡ get_or (set u p x) r None) (sym equal)
+        (get_or-set_same s p x None less ∙ sym (get_or-set_same u p x None (omega (arith, long))))
+    | inr at_least ↦ subst (λ r. get_or (set s p x) r None ≡ get_or (set u p x) r None) (sym equal)
         (get_or_past (set s p x) p None (omega (arith, length-set s p x))
         ∙ sym (get_or_past (set u p x) p None (omega (arith, long, length-set u p x))))
   ]
-  | inr n ↦ get_or-set_other s p q x None n ∙ same ∙ sym (get_or-set_other u p q x None n)
+  | inr differ ↦ get_or-set_other s p q x None differ ∙ same ∙ sym (get_or-set_other u p q x None differ)
 ]
 
 -- given: a step, the steps kept after it, and two lists of standings, s and u
@@ -142,11 +142,11 @@ module _ (step : ActivationStep) (kept : List ActivationStep) (s u : List (Optio
 
 -- a step without a condition makes no second way
 not_chosen : (a : Activation) (x : Option ℕ) (n : ℕ) → is_some x ≡ false → if_both (choice a x) n ≡ 0
-not_chosen Inactive x n h = refl
-not_chosen Plain None n h = refl
-not_chosen Plain (Some c) n h = cc
-not_chosen (By e) None n h = refl
-not_chosen (By e) (Some c) n h = cc
+not_chosen Inactive x n is_false = refl
+not_chosen Plain None n is_false = refl
+not_chosen Plain (Some c) n is_false = cc
+not_chosen (By e) None n is_false = refl
+not_chosen (By e) (Some c) n is_false = cc
 
 -- From standings that are alike, both walks count the same tracks.
 -- By induction on the steps: a step that is kept splits both walks alike. One that isn't has no condition and so no choice,
@@ -164,13 +164,13 @@ tracks_alike (step ∷ steps) s u alike =
         tracks_from steps t ≡ tracks_from (rested Conditions steps) w)
         → tracks_from (step ∷ steps) s
         ≡ tracks_from (if b then step ∷ rested Conditions steps else rested Conditions steps) u
-    go true e alike later = ap₂ (λ m n. m + n)
+    go true is alike later = ap₂ (λ m n. m + n)
         (later (settled s step false) (settled u step false)
         (next_alike step (rested Conditions steps) s u alike false))
         (ap₂ (λ a n. if_both (choice a step.condition) n) (here_alike step (rested Conditions steps) s u alike)
         (later (settled s step true) (settled u step true) (next_alike step (rested Conditions steps) s u alike true)))
-    go false e alike later =
-        let none = or_parts (is_some step.condition) (are_reading (rested Conditions steps) step.process) e in
+    go false is alike later =
+        let none = or_parts (is_some step.condition) (are_reading (rested Conditions steps) step.process) is in
         let same =
         later (settled s step false) u (passed_alike step (rested Conditions steps) s u alike none.1 false) in
         let zero = not_chosen (activation_in s step) step.condition (tracks_from steps (settled s step true)) none.0 in
@@ -209,18 +209,18 @@ all_rested P aim (step ∷ steps) h =
 -- a search that finds something on both ways exactly if another does finds something exactly if that one does
 some_passed : (c : Option ℕ) (x y z : Option (List (Option Bool))) → is_some x ≡ is_some z → is_some y ≡ is_some z →
     is_some (first_some x (if_other c y)) ≡ is_some z
-some_passed c (Some f) y z h k = h
-some_passed None None y z h k = h
-some_passed (Some c) None y z h k = k
+some_passed c (Some f) y z x_is y_is = x_is
+some_passed None None y z x_is y_is = x_is
+some_passed (Some c) None y z x_is y_is = y_is
 
 -- choosing between two ways finds something exactly if choosing between two ways like them does
 some_kept : (c : Option ℕ) (x y z w : Option (List (Option Bool))) → is_some x ≡ is_some z → is_some y ≡ is_some w →
     is_some (first_some x (if_other c y)) ≡ is_some (first_some z (if_other c w))
-some_kept c (Some f) y (Some g) w h k = refl
-some_kept c (Some f) y None w h k = cc
-some_kept c None y (Some g) w h k = cc
-some_kept None None y None w h k = refl
-some_kept (Some c) None y None w h k = k
+some_kept c (Some f) y (Some g) w x_is y_is = refl
+some_kept c (Some f) y None w x_is y_is = cc
+some_kept c None y (Some g) w x_is y_is = cc
+some_kept None None y None w x_is y_is = refl
+some_kept (Some c) None y None w x_is y_is = y_is
 
 -- both are there or none, with the same conditions set
 abbrev pub AreFoundAlike : Option (List (Option Bool)) → Option (List (Option Bool)) → Type 0
@@ -232,11 +232,11 @@ AreFoundAlike (Some f) None = ⊥
 -- if the first search finds as much as the whole one, or the other way does, so does the one after it
 found_passed : (c : Option ℕ) (x y z : Option (List (Option Bool))) → AreFoundAlike x z → is_some y ≡ is_some z →
     AreFoundAlike (first_some x (if_other c y)) z
-found_passed c (Some f) y z h k = h
-found_passed None None y z h k = h
-found_passed (Some c) None None None h k = tt
-found_passed (Some c) None (Some f) None h k = cc
-found_passed (Some c) None y (Some g) h k = absurd h
+found_passed c (Some f) y z h is = h
+found_passed None None y z h is = h
+found_passed (Some c) None None None h is = tt
+found_passed (Some c) None (Some f) None h is = cc
+found_passed (Some c) None y (Some g) h is = absurd h
 
 -- searches that find alike on both ways find alike
 found_kept : (c : Option ℕ) (x y z w : Option (List (Option Bool))) → AreFoundAlike x z → AreFoundAlike y w →
@@ -335,13 +335,14 @@ module _ (g : Graph) (order : List ℕ) (topological : IsTopological g order) (f
     sets_passed = record {
       long = length-set s q (standing (activation_in s (step_of g q)) false) ∙ sets.long;
       sets = λ r. elim (cases_eq r q) [
-        | inl e ↦ ap (λ x. is_set (get_or (settled s (step_of g q) false) x None)) e
+        | inl equal ↦ ap (λ x. is_set (get_or (settled s (step_of g q) false) x None)) equal
             ∙ ap is_set
             (get_or-set_same s q (standing (activation_in s (step_of g q)) false) None (omega (arith, sets.long)))
             ∙ unset (activation_in s (step_of g q))
-            ∙ sym (ap (λ x. is_set (get_or u x None)) e ∙ ap is_set (sets.fresh q h (omega (arith, at))))
-        | inr n ↦
-            ap is_set (get_or-set_other s q r (standing (activation_in s (step_of g q)) false) None n) ∙ sets.sets r
+            ∙ sym (ap (λ x. is_set (get_or u x None)) equal ∙ ap is_set (sets.fresh q h (omega (arith, at))))
+        | inr differ ↦
+            ap is_set (get_or-set_other s q r (standing (activation_in s (step_of g q)) false) None differ)
+            ∙ sets.sets r
       ];
       fresh = λ r l m. sets.fresh r l (omega arith);
     }
@@ -353,16 +354,17 @@ module _ (g : Graph) (order : List ℕ) (topological : IsTopological g order) (f
     sets_kept long v same = record {
       long = length-set s q (standing (activation_in s (step_of g q)) v) ∙ sets.long;
       sets = λ r. elim (cases_eq r q) [
-        | inl e ↦ ap (λ x. is_set (get_or (settled s (step_of g q) v) x None)) e
+        | inl is_q ↦ ap (λ x. is_set (get_or (settled s (step_of g q) v) x None)) is_q
             ∙ ap is_set (get_or-set_same s q (standing (activation_in s (step_of g q)) v) None
             (omega (arith, sets.long)) ∙ ap (λ a. standing a v) same ∙
             sym (get_or-set_same u q (standing (activation_in u (step_of g q)) v) None (omega (arith, long))))
-            ∙ sym (ap (λ x. is_set (get_or (settled u (step_of g q) v) x None)) e)
-        | inr n ↦ ap is_set (get_or-set_other s q r (standing (activation_in s (step_of g q)) v) None n) ∙ sets.sets r ∙
-            sym (ap is_set (get_or-set_other u q r (standing (activation_in u (step_of g q)) v) None n))
+            ∙ sym (ap (λ x. is_set (get_or (settled u (step_of g q) v) x None)) is_q)
+        | inr is_other ↦ ap is_set (get_or-set_other s q r (standing (activation_in s (step_of g q)) v) None is_other)
+            ∙ sets.sets r ∙
+            sym (ap is_set (get_or-set_other u q r (standing (activation_in u (step_of g q)) v) None is_other))
       ];
-      fresh = λ r l m. get_or-set_other u q r (standing (activation_in u (step_of g q)) v) None
-          (λ e. let f = ap (place order) e in omega (arith, at)) ∙ sets.fresh r l (omega arith);
+      fresh = λ r r_below from_next. get_or-set_other u q r (standing (activation_in u (step_of g q)) v) None
+          (λ is_q. let one_place = ap (place order) is_q in omega (arith, at)) ∙ sets.fresh r r_below (omega arith);
     }
 
   -- Both searches find the same conditions set.
@@ -371,11 +373,12 @@ module _ (g : Graph) (order : List ℕ) (topological : IsTopological g order) (f
       IsAlike (rested (Process p) (map (step_of g) qs)) s u →
       AreSetAlike k s u
       → AreFoundAlike (found_from p (map (step_of g) qs) s) (found_from p (rested (Process p) (map (step_of g) qs)) u)
-  found_alike [] k s u d alike sets = tt
-  found_alike (q ∷ qs) k s u d alike sets =
-      let r = rest_first g order topological k q qs d in
-      let more = rest_more g order topological k q qs d in
-      go r.0 r.1 ((step_of g q).process == p) (are_reading (rested (Process p) (map (step_of g) qs)) q) refl refl alike
+  found_alike [] k s u rest_is alike sets = tt
+  found_alike (q ∷ qs) k s u rest_is alike sets =
+      let first_there = rest_first g order topological k q qs rest_is in
+      let more = rest_more g order topological k q qs rest_is in
+      go first_there.0 first_there.1 ((step_of g q).process == p)
+      (are_reading (rested (Process p) (map (step_of g) qs)) q) refl refl alike
       (λ t w a b. found_alike qs (k + 1) t w more a b)
     where
       -- by whether the process is p, and otherwise by whether a later step that is kept reads it
@@ -457,8 +460,8 @@ module _ (g : Graph) (order : List ℕ) (topological : IsTopological g order) (f
   -- at the start no process has a standing
   start_none : (q : ℕ) → get_or start q None ≡ None
   start_none q = elim (cases_lt q 128) [
-    | inl l ↦ get_or-replicate {A = Option Bool} 128 q None None l
-    | inr l ↦ get_or_past start q None (omega (arith, length-replicate {A = Option Bool} 128 None))
+    | inl less ↦ get_or-replicate {A = Option Bool} 128 q None None less
+    | inr at_least ↦ get_or_past start q None (omega (arith, length-replicate {A = Option Bool} 128 None))
   ]
 
   -- a search along the steps that a process rests on finds the same conditions as one along all steps, or also none
@@ -480,15 +483,15 @@ module _ (g : Graph) (order : List ℕ) (topological : IsTopological g order) (f
       -- by what the search along all steps finds
       go : (x : Option (List (Option Bool))) → found_from p (map (step_of g) order) start ≡ x → AreFoundAlike x None →
           has_two_live g o p ≡ false
-      go None f a = search_none g order topological few p within f o
-      go (Some found) f a = absurd a
+      go None is a = search_none g order topological few p within is o
+      go (Some found) is a = absurd a
 
   -- If it finds standings, they give the least scenario in which two inputs of the process are live.
   -- The search along all steps finds standings with the same conditions set, and so the same scenario.
   pub rested_some : p < process_count g → (found : List (Option Bool)) → searched ≡ Some found →
       IsLeast g order (λ t. has_two_live g t.values p ≡ true) (scenario_of g found)
-  rested_some within found e = go (found_from p (map (step_of g) order) start) refl
-      (subst (AreFoundAlike (found_from p (map (step_of g) order) start)) e rested_alike)
+  rested_some within found is = go (found_from p (map (step_of g) order) start) refl
+      (subst (AreFoundAlike (found_from p (map (step_of g) order) start)) is rested_alike)
     where
       -- standings that set the same conditions have the same scenario
       same : (other : List (Option Bool)) → AreFoundAlike (Some other) (Some found) →
@@ -502,6 +505,6 @@ module _ (g : Graph) (order : List ℕ) (topological : IsTopological g order) (f
       go : (x : Option (List (Option Bool))) → found_from p (map (step_of g) order) start ≡ x →
           AreFoundAlike x (Some found) →
           IsLeast g order (λ t. has_two_live g t.values p ≡ true) (scenario_of g found)
-      go None f a = absurd a
-      go (Some other) f a = subst (IsLeast g order (λ t. has_two_live g t.values p ≡ true)) (same other a)
-          (search_some g order topological few p within other f)
+      go None is a = absurd a
+      go (Some other) is a = subst (IsLeast g order (λ t. has_two_live g t.values p ≡ true)) (same other a)
+          (search_some g order topological few p within other is)

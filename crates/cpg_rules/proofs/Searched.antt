@@ -53,17 +53,17 @@ module _ (g : Graph) (s t : Scenario) where
       ((c : ℕ) → o ≡ Some c → number_of_value (get_or s.values c false) ≤ number_of_value (get_or t.values c false)) →
       is_below xs ys ≡ false
       → is_below (value_in_key t.values o ++ xs) (value_in_key s.values o ++ ys) ≡ false
-  no_more_value None xs ys h k = k
-  no_more_value (Some c) xs ys h k = not_below-cons (number_of_value (get_or t.values c false))
-      (number_of_value (get_or s.values c false)) xs ys (h c refl) k
+  no_more_value None xs ys h is_false = is_false
+  no_more_value (Some c) xs ys h is_false = not_below-cons (number_of_value (get_or t.values c false))
+      (number_of_value (get_or s.values c false)) xs ys (h c refl) is_false
 
   -- If the value is false in s and true in t, the key of t is not below that of s.
   -- At this condition the number in s is 0 and in t 1, so s is below.
   strictly : (o : Option ℕ) (c : ℕ) (xs ys : List ℕ) → o ≡ Some c → get_or s.values c false ≡ false →
       get_or t.values c false ≡ true
       → is_below (value_in_key t.values o ++ xs) (value_in_key s.values o ++ ys) ≡ false
-  strictly None c xs ys e low high = cc
-  strictly (Some d) c xs ys e low high =
+  strictly None c xs ys is low high = cc
+  strictly (Some d) c xs ys is low high =
       let same : d ≡ c = cc in
       let more : number_of_value (get_or s.values d false) < number_of_value (get_or t.values d false) =
       subst (λ x. number_of_value (get_or s.values x false) < number_of_value (get_or t.values x false)) (sym same)
@@ -79,16 +79,16 @@ module _ (g : Graph) (s t : Scenario) where
       fault_of s q ≤ fault_of t q →
       condition_of g q ≡ Some c
       → get_or s.values c false ≡ false → get_or t.values c false ≡ true → is_before g (ps ++ q ∷ qs) t s ≡ false
-  not_before_first [] qs q c fewer f is low high =
+  not_before_first [] qs q c fewer at_most is low high =
       not_below-cons (fault_of t q) (fault_of s q) (value_in_key t.values (condition_of g q) ++ key g qs t)
-      (value_in_key s.values (condition_of g q) ++ key g qs s) f
+      (value_in_key s.values (condition_of g q) ++ key g qs s) at_most
       (strictly (condition_of g q) c (key g qs t) (key g qs s) is low high)
-  not_before_first (p ∷ ps) qs q c fewer f is low high =
+  not_before_first (p ∷ ps) qs q c fewer at_most is low high =
       let here = fewer p (Contains-first p ps) in
       not_below-cons (fault_of t p) (fault_of s p) (value_in_key t.values (condition_of g p) ++ key g (ps ++ q ∷ qs) t)
       (value_in_key s.values (condition_of g p) ++ key g (ps ++ q ∷ qs) s) here.faults
       (no_more_value (condition_of g p) (key g (ps ++ q ∷ qs) t) (key g (ps ++ q ∷ qs) s) here.values
-      (not_before_first ps qs q c (λ x k. fewer x (Contains-rest p ps x k)) f is low high))
+      (not_before_first ps qs q c (λ x k. fewer x (Contains-rest p ps x k)) at_most is low high))
 
 -- ---- the outcome of standings
 
@@ -97,7 +97,8 @@ module _ (g : Graph) (order : List ℕ) (s : List (Option Bool)) where
   -- the value of a condition in the scenario of standings is that of its process's standing
   value_in : (c : ℕ) → c < condition_count g →
       get_or (scenario_of g s).values c false ≡ is_set (get_or s (process_of g c) None)
-  value_in c l = get_or-map-below (λ d. is_set (get_or s (process_of g d) None)) (condition_count g) c false l
+  value_in c c_below = get_or-map-below (λ d. is_set (get_or s (process_of g d) None))
+      (condition_count g) c false c_below
 
   -- The scenario that is made has no faults.
   -- Each number in the list is 0, and what is past its end counts as 0.
@@ -107,8 +108,8 @@ module _ (g : Graph) (order : List ℕ) (s : List (Option Bool)) where
       -- each entry of a list of zeros, and any entry beyond it, is 0
       get_or-zeros : (n i : ℕ) → get_or (replicate {A = ℕ} n 0) i 0 ≡ 0
       get_or-zeros n i = elim (cases_lt i n) [
-        | inl l ↦ get_or-replicate n i 0 0 l
-        | inr l ↦ get_or_past (replicate {A = ℕ} n 0) i 0 (omega (arith, length-replicate {A = ℕ} n 0))
+        | inl less ↦ get_or-replicate n i 0 0 less
+        | inr at_least ↦ get_or_past (replicate {A = ℕ} n 0) i 0 (omega (arith, length-replicate {A = ℕ} n 0))
       ]
 
   -- the values of a scenario that is made of standings follow these
@@ -132,6 +133,7 @@ module _ (g : Graph) (order : List ℕ) (s : List (Option Bool)) where
 module _ (g : Graph) (order : List ℕ) (topological : IsTopological g order) (few : process_count g ≤ 128) where
   -- no process from place k of the order on stands as active yet
   record IsFresh (k : ℕ) (s : List (Option Bool)) : Type 0 where
+    -- no process at the place k or later has a standing
     unset : (q : ℕ) → q < process_count g → k ≤ place order q → get_or s q None ≡ None
 
   -- two inputs of the process at a place are live by the standings exactly if they are in the outcome
@@ -151,13 +153,13 @@ module _ (g : Graph) (order : List ℕ) (topological : IsTopological g order) (f
   no_more : (k : ℕ) (s u : List (Option Bool)) (t : Scenario) → Follows g order k s t.values → (p : ℕ) →
       place order p < k → get_or u p None ≡ get_or s p None →
       IsNoMore g (scenario_of g u) t p
-  no_more k s u t f p l same = record {
+  no_more k s u t follows p before_k same = record {
     faults = omega (arith, no_faults g order u p);
     values = λ c its.
         let of_it = process_of_condition_of g p c its in
         let within = condition_of_below g p c its in
         below c (value_in g order u c within ∙ ap (λ q. is_set (get_or u q None)) of_it ∙ ap is_set same)
-        (get_or s p None) refl (λ v is. f.takes c within (subst (λ q. place order q < k) (sym of_it) l) v
+        (get_or s p None) refl (λ v is. follows.takes c within (subst (λ q. place order q < k) (sym of_it) before_k) v
         (subst (λ q. get_or s q None ≡ Some v) (sym of_it) is));
   }
     where
@@ -166,11 +168,13 @@ module _ (g : Graph) (order : List ℕ) (topological : IsTopological g order) (f
           get_or s p None ≡ x
           → ((v : Bool) → get_or s p None ≡ Some v → get_or t.values c false ≡ v) →
           number_of_value (get_or (scenario_of g u).values c false) ≤ number_of_value (get_or t.values c false)
-      below c e None is h = let z : get_or (scenario_of g u).values c false ≡ false = e ∙ ap is_set is in
-          let y = ap number_of_value z in
+      below c by_standing None is standing_goes =
+          let value_is : get_or (scenario_of g u).values c false ≡ false = by_standing ∙ ap is_set is in
+          let number_is = ap number_of_value value_is in
           omega arith
-      below c e (Some v) is h = let z : get_or (scenario_of g u).values c false ≡ v = e ∙ ap is_set is in
-          let y = ap number_of_value (z ∙ sym (h v is)) in
+      below c by_standing (Some v) is standing_goes =
+          let value_is : get_or (scenario_of g u).values c false ≡ v = by_standing ∙ ap is_set is in
+          let number_is = ap number_of_value (value_is ∙ sym (standing_goes v is)) in
           omega arith
 
   -- given: a process p of the graph
@@ -201,28 +205,28 @@ module _ (g : Graph) (order : List ℕ) (topological : IsTopological g order) (f
       where
         -- by whether two inputs are live by these standings
         go : (b : Bool) → are_two_live s (step_of g p).inputs ≡ b → Answers k s (if b then Some s else None)
-        go false e = λ o f. sym (two_live_here k s are o f p at) ∙ e
-        go true e = record {
+        go false is = λ o follows. sym (two_live_here k s are o follows p at) ∙ is
+        go true is = record {
           settled = subst (λ n. AreSettled g order n s) (sym at) are;
-          two = e;
-          keeps = λ q l m. refl;
-          least = λ t f two. not_before_by_parts g (scenario_of g s) t order
+          two = is;
+          keeps = λ q before_k r_before. refl;
+          least = λ t follows two. not_before_by_parts g (scenario_of g s) t order
               (λ q. omega (arith, no_faults g order s q))
-              (λ q c its. each t f q c its (cases_lt (place order q) k));
+              (λ q c its. each t follows q c its (cases_lt (place order q) k));
         }
           where
             -- by whether the condition's process comes before place k: if so both follow s, and if not it is false here
             each : (t : Scenario) → Follows g order k s t.values → (q c : ℕ) → condition_of g q ≡ Some c →
                 (place order q < k) ⊎ (k ≤ place order q)
                 → number_of_value (get_or (scenario_of g s).values c false) ≤ number_of_value (get_or t.values c false)
-            each t f q c its (inl l) = (no_more k s s t f q l refl).values c its
-            each t f q c its (inr l) =
+            each t follows q c its (inl before_k) = (no_more k s s t follows q before_k refl).values c its
+            each t follows q c its (inr before_k) =
                 let of_it = process_of_condition_of g q c its in
                 let inside = condition_of_below g q c its in
-                let z : get_or (scenario_of g s).values c false ≡ false = value_in g order s c inside ∙
+                let unset_is_false : get_or (scenario_of g s).values c false ≡ false = value_in g order s c inside ∙
                 ap is_set (fresh.unset (process_of g c) (process_of_below g c inside)
-                (subst (λ x. k ≤ place order x) (sym of_it) l)) in
-                let y = ap number_of_value z in omega arith
+                (subst (λ x. k ≤ place order x) (sym of_it) before_k)) in
+                let number_is = ap number_of_value unset_is_false in omega arith
 
     -- given: the standings of the processes before a place, and another process than p at the place
     module _ (k q : ℕ) (qs : List ℕ) (s : List (Option Bool)) (are : AreSettled g order k s) (h : q < process_count g)
@@ -244,8 +248,8 @@ module _ (g : Graph) (order : List ℕ) (topological : IsTopological g order) (f
       kept : (v : Bool) (found : List (Option Bool)) → IsFirstFrom (k + 1) (settled s (step_of g q) v) found → (r : ℕ) →
           r < process_count g → place order r < k →
           get_or found r None ≡ get_or s r None
-      kept v found first r l m = first.keeps r l (omega arith)
-          ∙ get_or-set_other s q r (standing here v) None (λ e. let f = ap (place order) e in omega arith)
+      kept v found first r r_below before_k = first.keeps r r_below (omega arith)
+          ∙ get_or-set_other s q r (standing here v) None (λ same. let one_place = ap (place order) same in omega arith)
 
       -- the order is the processes before this one, it, and those behind
       whole : order ≡ take k order ++ q ∷ qs
@@ -253,7 +257,7 @@ module _ (g : Graph) (order : List ℕ) (topological : IsTopological g order) (f
 
       -- what stands among the first k of the order is a process of the graph with a place before k
       before_here : (r : ℕ) → Contains (take k order) r → (r < process_count g) × (place order r < k)
-      before_here r c = in_take g order topological k r c
+      before_here r among = in_take g order topological k r among
 
       -- If only one way is taken, the search answers as it does after it.
       -- Without a choice each outcome of this way goes on with false.
@@ -279,9 +283,9 @@ module _ (g : Graph) (order : List ℕ) (topological : IsTopological g order) (f
           where
             -- by how the process is active: an inactive one has no choice
             go : (a : Activation) → choice a (condition_of g q) ≡ Some c → is_active a ≡ true
-            go Inactive e = cc
-            go Plain e = refl
-            go (By i) e = refl
+            go Inactive is = cc
+            go Plain is = refl
+            go (By i) is = refl
 
         -- with the value false its standing says so
         stands : get_or off q None ≡ Some false
@@ -294,17 +298,21 @@ module _ (g : Graph) (order : List ℕ) (topological : IsTopological g order) (f
             Follows g order k s t.values → has_two_live g t.values p ≡ true → (v : Bool) →
             get_or t.values c false ≡ v
             → is_before g order t (scenario_of g found) ≡ false
-        least_off found first t f two false e =
-            first.least t (follows_value g order topological k s are q h few at false c some t.values e f) two
-        least_off found first t f two true e =
+        least_off found first t follows two false value_is =
+            first.least t (follows_value g order topological k s are q h few at false c some t.values value_is follows)
+            two
+        least_off found first t follows two true value_is =
             let low : get_or (scenario_of g found).values c false ≡ false =
             value_in g order found c (condition_of_below g q c its)
             ∙ ap (λ r. is_set (get_or found r None)) (process_of_condition_of g q c its)
             ∙ ap is_set (first.keeps q h (omega arith) ∙ stands) in
             subst (λ xs. is_before g xs t (scenario_of g found) ≡ false) (sym whole)
             (not_before_first g (scenario_of g found) t (take k order) qs q c
-            (λ r i. let b = before_here r i in no_more k s found t f r b.1 (kept false found first r b.0 b.1))
-            (omega (arith, no_faults g order found q)) its low e)
+            (λ earlier among.
+            let stands_before = before_here earlier among in
+            no_more k s found t follows earlier stands_before.1
+            (kept false found first earlier stands_before.0 stands_before.1))
+            (omega (arith, no_faults g order found q)) its low value_is)
 
         -- The answers of both values together are the answer, if the condition may be chosen.
         -- Nothing found with either value: no outcome of this way has two. Something found with false is the least; otherwise what
@@ -316,8 +324,8 @@ module _ (g : Graph) (order : List ℕ) (topological : IsTopological g order) (f
             -- by the value of the condition in the outcome: each way was searched in vain
             go : (o : List Bool) → Follows g order k s o → (v : Bool) → get_or o c false ≡ v →
                 has_two_live g o p ≡ false
-            go o f false e = a o (follows_value g order topological k s are q h few at false c some o e f)
-            go o f true e = b o (follows_value g order topological k s are q h few at true c some o e f)
+            go o follows false is = a o (follows_value g order topological k s are q h few at false c some o is follows)
+            go o follows true is = b o (follows_value g order topological k s are q h few at true c some o is follows)
         both None (Some found) a first = record {
           settled = first.settled;
           two = first.two;
@@ -329,10 +337,11 @@ module _ (g : Graph) (order : List ℕ) (topological : IsTopological g order) (f
             go : (t : Scenario) → Follows g order k s t.values → has_two_live g t.values p ≡ true → (v : Bool) →
                 get_or t.values c false ≡ v →
                 is_before g order t (scenario_of g found) ≡ false
-            go t f two false e = absurd (both_ways (has_two_live g t.values p)
-                (a t.values (follows_value g order topological k s are q h few at false c some t.values e f)) two)
-            go t f two true e =
-                first.least t (follows_value g order topological k s are q h few at true c some t.values e f) two
+            go t follows two false is = absurd (both_ways (has_two_live g t.values p)
+                (a t.values (follows_value g order topological k s are q h few at false c some t.values is follows))
+                two)
+            go t follows two true is =
+                first.least t (follows_value g order topological k s are q h few at true c some t.values is follows) two
         both (Some found) y first b = record {
           settled = first.settled;
           two = first.two;
@@ -347,15 +356,15 @@ module _ (g : Graph) (order : List ℕ) (topological : IsTopological g order) (f
         where
           -- by whether the process has a condition to choose
           go : (z : Option ℕ) → choice here (condition_of g q) ≡ z → Answers k s (first_some x (if_other z y))
-          go None e = one e x a
-          go (Some c) e = both c e x y a b
+          go None is = one is x a
+          go (Some c) is = both c is x y a b
 
     -- nothing stands from the next place on after the process at this place is settled
     fresh_next : (k q : ℕ) (s : List (Option Bool)) (v : Bool) → place order q ≡ k → IsFresh k s →
         IsFresh (k + 1) (settled s (step_of g q) v)
     fresh_next k q s v at fresh = record {
-      unset = λ r l m. get_or-set_other s q r (standing (activation_in s (step_of g q)) v) None
-          (λ e. let f = ap (place order) e in omega arith) ∙ fresh.unset r l (omega arith);
+      unset = λ r r_below from_next. get_or-set_other s q r (standing (activation_in s (step_of g q)) v) None
+          (λ same. let one_place = ap (place order) same in omega arith) ∙ fresh.unset r r_below (omega arith);
     }
 
     -- The search along the rest of the order answers for all outcomes that follow the standings.
@@ -363,15 +372,18 @@ module _ (g : Graph) (order : List ℕ) (topological : IsTopological g order) (f
     searched : (qs : List ℕ) (k : ℕ) (s : List (Option Bool)) → drop k order ≡ qs → AreSettled g order k s →
         IsFresh k s → k ≤ place order p →
         Answers k s (found_from p (map (step_of g) qs) s)
-    searched [] k s e are fresh later = absurd (let b = rest_none g order topological k e p within in omega arith)
-    searched (q ∷ qs) k s e are fresh later =
-        let r = rest_first g order topological k q qs e in
-        let f = rest_more g order topological k q qs e in
-        go (q == p) refl r.0 r.1
-        (λ n. searched qs (k + 1) (settled s (step_of g q) false) f
-        (settled_next g order topological k s are q r.0 few r.1 false) (fresh_next k q s false r.1 fresh) n)
-        (λ n. searched qs (k + 1) (settled s (step_of g q) true) f
-        (settled_next g order topological k s are q r.0 few r.1 true) (fresh_next k q s true r.1 fresh) n)
+    searched [] k s rest_is are fresh later =
+        absurd (let stands_before = rest_none g order topological k rest_is p within in omega arith)
+    searched (q ∷ qs) k s rest_is are fresh later =
+        let first_there = rest_first g order topological k q qs rest_is in
+        let rest_after = rest_more g order topological k q qs rest_is in
+        go (q == p) refl first_there.0 first_there.1
+        (λ p_later. searched qs (k + 1) (settled s (step_of g q) false) rest_after
+        (settled_next g order topological k s are q first_there.0 few first_there.1 false)
+        (fresh_next k q s false first_there.1 fresh) p_later)
+        (λ p_later. searched qs (k + 1) (settled s (step_of g q) true) rest_after
+        (settled_next g order topological k s are q first_there.0 few first_there.1 true)
+        (fresh_next k q s true first_there.1 fresh) p_later)
       where
         -- by whether the next process in the order is p
         go : (b : Bool) → (q == p) ≡ b → q < process_count g → place order q ≡ k
@@ -383,15 +395,16 @@ module _ (g : Graph) (order : List ℕ) (topological : IsTopological g order) (f
             else first_some (found_from p (map (step_of g) qs) (settled s (step_of g q) false))
             (if_other (choice (activation_in s (step_of g q)) (condition_of g q))
             (found_from p (map (step_of g) qs) (settled s (step_of g q) true))))
-        go true is h at low high =
+        go true is q_below at low high =
             let same = eqb-true q p is in
             subst (λ x. Answers k s (if are_two_live s (step_of g x).inputs then Some s else None)) (sym same)
             (at_process k s are fresh (sym (ap (place order) same) ∙ at))
-        go false is h at low high =
-            let n = eqb-false q p is in
-            let past : k + 1 ≤ place order p = let d = place_differs g order topological q p h within n in
-            omega arith in
-            either k q qs s are h at n e (found_from p (map (step_of g) qs) (settled s (step_of g q) false))
+        go false is q_below at low high =
+            let differ = eqb-false q p is in
+            let past : k + 1 ≤ place order p =
+            let places_differ = place_differs g order topological q p q_below within differ in omega arith in
+            either k q qs s are q_below at differ rest_is (found_from p (map (step_of g) qs)
+            (settled s (step_of g q) false))
             (found_from p (map (step_of g) qs) (settled s (step_of g q) true)) (low past) (high past)
 
     -- ---- from the start
@@ -406,15 +419,15 @@ module _ (g : Graph) (order : List ℕ) (topological : IsTopological g order) (f
 
     -- if the search finds nothing, no outcome makes two inputs of the process live
     pub search_none : found_from p (map (step_of g) order) start ≡ None → (o : List Bool) → has_two_live g o p ≡ false
-    search_none e o = (let a : Answers 0 start None = subst (Answers 0 start) e
-        (searched order 0 start refl (none_settled g order topological few) start_fresh (omega arith)) in a) o
+    search_none none_found o = (let nothing : Answers 0 start None = subst (Answers 0 start) none_found
+        (searched order 0 start refl (none_settled g order topological few) start_fresh (omega arith)) in nothing) o
         (all_follow g order topological few start o)
 
     -- if it finds standings, they give the least scenario in which two inputs of the process are live
     pub search_some : (found : List (Option Bool)) → found_from p (map (step_of g) order) start ≡ Some found →
         IsLeast g order (λ t. has_two_live g t.values p ≡ true) (scenario_of g found)
-    search_some found e =
-        let first : IsFirstFrom 0 start found = subst (Answers 0 start) e
+    search_some found is =
+        let first : IsFirstFrom 0 start found = subst (Answers 0 start) is
         (searched order 0 start refl (none_settled g order topological few) start_fresh (omega arith)) in
         record {
           lawful = scenario_lawful g order found;

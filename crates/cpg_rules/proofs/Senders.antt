@@ -15,7 +15,7 @@ use Rattle.cpg_rules.specs.Rules.{is_message_of, sends_message, decides, is_send
 
 -- a test that passes for a number below a bound passes for one of them
 pub any_there : (p : ℕ → Bool) (n i : ℕ) → i < n → p i ≡ true → list_any p (numbers_below n) ≡ true
-any_there p n i l t = list_any_true p (numbers_below n) i (Contains-numbers n i l) t
+any_there p n i less is_true = list_any_true p (numbers_below n) i (Contains-numbers n i less) is_true
 
 -- a test that fails for each number below a bound passes for none of them
 pub any_nowhere : (p : ℕ → Bool) (n : ℕ) → ((i : ℕ) → i < n → p i ≡ false) → list_any p (numbers_below n) ≡ false
@@ -25,41 +25,41 @@ any_nowhere p n h = list_any_false p (numbers_below n) (λ i c. h i (numbers-Con
 module _ (g : Graph) (w : IsWithinLimits g) (none_lacks : (n : ℕ) → n < length g.nodes → lacks_slot g n ≡ false) where
   -- each node that sends has a slot
   slot_there : (n : ℕ) → n < length g.nodes → is_sender g n ≡ true → has_slot g n ≡ true
-  slot_there n l sends = go (has_slot g n) (none_lacks n l)
+  slot_there n below sends = go (has_slot g n) (none_lacks n below)
     where
       -- by whether the node has a slot
       go : (b : Bool) → (is_sender g n && not b) ≡ false → b ≡ true
-      go true e = refl
-      go false e = absurd (both_ways (is_sender g n && true) e (and_from (is_sender g n) true sends refl))
+      go true is_false = refl
+      go false is_false = absurd (both_ways (is_sender g n && true) is_false (and_from (is_sender g n) true sends refl))
 
   -- the node of a process is one of the graph
   node_within : (p : ℕ) → p < process_count g → node_of g p < length g.nodes
-  node_within p l = (w.processes p _ l).node
+  node_within p below = (w.processes p _ below).node
 
   -- the source node of a message has a slot
   of_message : (e : ℕ) → e < edge_count g → is_message g e ≡ true → has_slot g (node_of g (source g e)) ≡ true
-  of_message e l is =
+  of_message e below is =
       let node = node_of g (source g e) in
-      slot_there node (node_within (source g e) (w.edges e _ l).from)
+      slot_there node (node_within (source g e) (w.edges e _ below).from)
       (or_left (sends_message g node) (nat_lt 1 (length g.nodes) && decides g node)
-      (any_there (λ f. is_message_of g f node) (edge_count g) e l
+      (any_there (λ f. is_message_of g f node) (edge_count g) e below
       (and_from (is_message g e) (node_of g (source g e) == node) is (eq-eqb node node refl))))
 
   -- the node of a condition has a slot, if there are two nodes or more
   of_broadcast : (c : ℕ) → c < condition_count g → nat_lt 1 (length g.nodes) ≡ true →
       has_slot g (node_of g (process_of g c)) ≡ true
-  of_broadcast c l some =
+  of_broadcast c below some =
       let node = node_of g (process_of g c) in
-      slot_there node (node_within (process_of g c) (process_of_below g c l))
+      slot_there node (node_within (process_of g c) (process_of_below g c below))
       (or_right (sends_message g node) (nat_lt 1 (length g.nodes) && decides g node)
       (and_from (nat_lt 1 (length g.nodes)) (decides g node) some
-      (any_there (λ d. node_of g (process_of g d) == node) (condition_count g) c l (eq-eqb node node refl))))
+      (any_there (λ d. node_of g (process_of g d) == node) (condition_count g) c below (eq-eqb node node refl))))
 
   -- If no node that sends lacks a slot, each node that sends has one.
   -- By the kind of the item: a start isn't sent, and a message or a broadcast makes its node a sender.
   pub senders_have_slots : HasSenderSlots g
   senders_have_slots x l sent = elim (item_cases g x l) [
-    | inl a ↦ (let never : false ≡ true = sym (ap (is_sent_item g) a.1) ∙ sent in cc)
+    | inl of_start ↦ (let never : false ≡ true = sym (ap (is_sent_item g) of_start.1) ∙ sent in cc)
     | inr r ↦ elim r [
       | inl m ↦ subst (λ n. has_slot g n ≡ true) (sym (ap (λ i. node_of g (producer_of_item g i)) m.3))
           (of_message m.0 m.1 (sym (ap (is_sent_item g) m.3) ∙ sent))

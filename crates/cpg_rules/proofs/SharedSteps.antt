@@ -18,7 +18,7 @@ use Rattle.cpg_rules.proofs.Sharing.{extends_both, makes_extends, same_trees, ro
 pub seeded : (parts : List SharedPart) (count n : ℕ) (roots : List ℕ) (t : Guard) → roots ≡ replicate count n →
     tree_at parts n ≡ t →
     trees_of parts roots ≡ replicate count t
-seeded parts count n roots t e is = ap (trees_of parts) e ∙ go count
+seeded parts count n roots t n_is is = ap (trees_of parts) n_is ∙ go count
   where
     -- by induction on the number of copies
     go : (k : ℕ) → trees_of parts (replicate k n) ≡ replicate k t
@@ -30,8 +30,8 @@ seeded parts count n roots t e is = ap (trees_of parts) e ∙ go count
 -- if there are later inputs, the first tree is met with theirs
 first_with : (join : Bool) (ranks : List ℕ) (left : List Input) (first later : Guard) → (length left == 0) ≡ false →
     with_later join ranks left first later ≡ met join ranks first later
-first_with join ranks [] first later h = cc
-first_with join ranks (i ∷ is) first later h = refl
+first_with join ranks [] first later is_false = cc
+first_with join ranks (i ∷ is) first later is_false = refl
 
 -- given: the roots of some processes, and inputs that begin with one
 -- `are`: each process has a root among the parts of a. `all`: the inputs are the first one and those left.
@@ -103,9 +103,9 @@ with_first ranks first (Some later) = if are_both_live ranks first later then No
 -- the tree of all inputs is that of the later ones with the first before it
 union_first : (ranks : List ℕ) (left : List Input) (first : Guard) (x : Option Guard) → (length left == 0) ≡ false →
     with_first ranks first x ≡ union_with ranks left first x
-union_first ranks [] first x h = cc
-union_first ranks (i ∷ is) first None h = refl
-union_first ranks (i ∷ is) first (Some later) h = refl
+union_first ranks [] first x is_false = cc
+union_first ranks (i ∷ is) first None is_false = refl
+union_first ranks (i ∷ is) first (Some later) is_false = refl
 
 -- given: inputs with more than one element, and the part that was made of the first
 -- `are`: each process has a root among the parts of a. `all`, `some`: more inputs follow the first. `made`: n is the
@@ -139,7 +139,8 @@ module _ (g : Graph) (a b c : Sharing) (count : ℕ) (roots : List ℕ) (are : A
   -- if the later inputs have no tree, all inputs have none
   pub union_none : (y : Option ℕ) → y ≡ None → MakesUnion b c (union g b.ranks (trees_of b.parts roots) left) y →
       MakesUnion a c (union g a.ranks (trees_of a.parts roots) inputs) None
-  union_none y e h = subst (λ x. MakesUnion a c x None) whole_is (none_later later (subst (MakesUnion b c later) e h))
+  union_none y same h = subst (λ x. MakesUnion a c x None) whole_is
+      (none_later later (subst (MakesUnion b c later) same h))
 
   -- given: the part m that the tree of the later inputs is in
   module _ (m : ℕ) where
@@ -163,8 +164,8 @@ module _ (g : Graph) (a b c : Sharing) (count : ℕ) (roots : List ℕ) (are : A
     pub union_live : (y : Option ℕ) → y ≡ Some m → MakesUnion b c (union g b.ranks (trees_of b.parts roots) left) y →
         are_both_live c.ranks (tree_at c.parts n) (tree_at c.parts m) ≡ true
         → MakesUnion a c (union g a.ranks (trees_of a.parts roots) inputs) None
-    union_live y e h live =
-        subst (λ x. MakesUnion a c x None) whole_is (live_later later (subst (MakesUnion b c later) e h) live)
+    union_live y is h live =
+        subst (λ x. MakesUnion a c x None) whole_is (live_later later (subst (MakesUnion b c later) is h) live)
 
     -- given: a part r in which the first tree and the later ones meet, as `last` says
     module _ (d : Sharing) (r : ℕ) (last : Makes c d (met true c.ranks (tree_at c.parts n) (tree_at c.parts m)) r) where
@@ -187,8 +188,8 @@ module _ (g : Graph) (a b c : Sharing) (count : ℕ) (roots : List ℕ) (are : A
       pub union_apart : (y : Option ℕ) → y ≡ Some m → MakesUnion b c (union g b.ranks (trees_of b.parts roots) left) y →
           are_both_live c.ranks (tree_at c.parts n) (tree_at c.parts m) ≡ false
           → MakesUnion a d (union g a.ranks (trees_of a.parts roots) inputs) (Some r)
-      union_apart y e h apart =
-          subst (λ x. MakesUnion a d x (Some r)) whole_is (apart_later later (subst (MakesUnion b c later) e h) apart)
+      union_apart y is h apart =
+          subst (λ x. MakesUnion a d x (Some r)) whole_is (apart_later later (subst (MakesUnion b c later) is h) apart)
 
 -- making a union only adds parts, whether there is a union or not
 pub union_extends : (a b : Sharing) (x : Option Guard) (y : Option ℕ) → MakesUnion a b x y → Extends a b
@@ -216,10 +217,10 @@ pub apart_more : (g : Graph) (a b c : Sharing) (count : ℕ) (roots : List ℕ) 
     Makes b c (input_tree g true (trees_of b.parts roots) input) n
     → not (are_both_live c.ranks (tree_at c.parts n) (tree_at c.parts m))
     ≡ are_apart g a.ranks (trees_of a.parts roots) inputs
-apart_more g a b c count roots are input left inputs all n m y e h made =
+apart_more g a b c count roots are input left inputs all n m y is h made =
     apart_first g a b c roots (input_tree g true (trees_of b.parts roots) input) n m
     (union g a.ranks (trees_of a.parts roots) left)
-    (subst (MakesUnion a b (union g a.ranks (trees_of a.parts roots) left)) e h) made
+    (subst (MakesUnion a b (union g a.ranks (trees_of a.parts roots) left)) is h) made
     ∙ ap (λ trees. is_apart a.ranks (input_tree g true trees input) (union g a.ranks (trees_of a.parts roots) left))
     (same_trees a b roots (union_extends a b (union g a.ranks (trees_of a.parts roots) left) y h) are.within)
     ∙ ap (are_apart g a.ranks (trees_of a.parts roots)) (sym all)

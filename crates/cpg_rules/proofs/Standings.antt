@@ -60,8 +60,9 @@ module _ (g : Graph) (s : List (Option Bool)) where
 module _ (g : Graph) (order : List ℕ) (topological : IsTopological g order) where
   -- different processes have different places
   pub place_differs : (p q : ℕ) → p < process_count g → q < process_count g → p ≢ q → place order p ≢ place order q
-  place_differs p q h k n e = n (same_place order p q (Contains-order (process_count g) order topological.all p h)
-      (Contains-order (process_count g) order topological.all q k) e)
+  place_differs p q p_below q_below differ e = differ (same_place order p q
+      (Contains-order (process_count g) order topological.all p p_below)
+      (Contains-order (process_count g) order topological.all q q_below) e)
 
   -- given: standings s that are right for the processes before place k of the order
   module _ (k : ℕ) (s : List (Option Bool)) (are : AreSettled g order k s) where
@@ -88,11 +89,13 @@ module _ (g : Graph) (order : List ℕ) (topological : IsTopological g order) wh
           takes w v ≡ takes w (value_of g o (source g e))
       takes_same v is None when = refl
       takes_same v is (Some wanted) when =
-          let d = condition_of_edge g e wanted within from when in
-          let there : value_of g o (source g e) ≡ get_or o d.0 false =
-          subst (λ q. value_of g o q ≡ get_or o d.0 false) d.2 (value_of_process g o d.0 d.1) in
-          let value : get_or o d.0 false ≡ v = follows.takes d.0 d.1 (subst (λ q. place order q < k) (sym d.2) sooner) v
-          (subst (λ q. get_or s q None ≡ Some v) (sym d.2) is) in
+          let source_condition = condition_of_edge g e wanted within from when in
+          let there : value_of g o (source g e) ≡ get_or o source_condition.0 false =
+          subst (λ q. value_of g o q ≡ get_or o source_condition.0 false) source_condition.2
+          (value_of_process g o source_condition.0 source_condition.1) in
+          let value : get_or o source_condition.0 false ≡ v = follows.takes source_condition.0
+          source_condition.1 (subst (λ q. place order q < k) (sym source_condition.2) sooner) v
+          (subst (λ q. get_or s q None ≡ Some v) (sym source_condition.2) is) in
           ap (takes (Some wanted)) (sym (there ∙ value))
 
       -- the input is live by the standings exactly if its edge is live
@@ -109,10 +112,10 @@ module _ (g : Graph) (order : List ℕ) (topological : IsTopological g order) wh
     -- a process at the place has the activation that the standings say
     pub activation_here : (o : List Bool) → Follows g order k s o → (p : ℕ) → p < process_count g → place order p ≡ k →
         activation_in s (step_of g p) ≡ activation g o p
-    activation_here o follows p h at =
+    activation_here o follows p below at =
         activation_in-is g s p
         ∙ same_activation_by (process_at g p).join (inputs g p) (is_live_edge g s) (live g o)
-        (λ e c. live_here o follows p e at c)
+        (λ e is_input. live_here o follows p e at is_input)
         ∙ sym (activation_is g order topological o p (omega arith))
 
     -- ---- the next standings
@@ -129,24 +132,25 @@ module _ (g : Graph) (order : List ℕ) (topological : IsTopological g order) wh
 
       -- all other processes stand as before
       next_before : (q : ℕ) → q ≢ p → get_or next q None ≡ get_or s q None
-      next_before q n = get_or-set_other s p q (standing (activation_in s (step_of g p)) v) None n
+      next_before q is_other = get_or-set_other s p q (standing (activation_in s (step_of g p)) v) None is_other
 
       -- an earlier process isn't this one
       not_here : (q : ℕ) → place order q < k → q ≢ p
-      not_here q l e = let f = ap (place order) e in omega arith
+      not_here q before_k same = let one_place = ap (place order) same in omega arith
 
       -- an outcome that follows the standings after a process follows those before it
       pub follows_back : (o : List Bool) → Follows g order (k + 1) next o → Follows g order k s o
-      follows_back o f = record {
-        takes = λ c l m value is.
-            f.takes c l (omega arith) value (next_before (process_of g c) (not_here (process_of g c) m) ∙ is);
+      follows_back o follows = record {
+        takes = λ c below before_k value is.
+            follows.takes c below (omega arith) value
+            (next_before (process_of g c) (not_here (process_of g c) before_k) ∙ is);
       }
 
       -- only an active process has a standing, with the value that was set
       some_standing : (a : Activation) (v w : Bool) → standing a v ≡ Some w → (is_active a ≡ true) × (v ≡ w)
-      some_standing Inactive v w e = cc
-      some_standing Plain v w e = (refl, cc)
-      some_standing (By i) v w e = (refl, cc)
+      some_standing Inactive v w is = cc
+      some_standing Plain v w is = (refl, cc)
+      some_standing (By i) v w is = (refl, cc)
 
       -- An outcome follows the standings after a process, if the condition of the process has the value.
       -- A condition is that of the process, or of one before it, whose standing stays.
@@ -154,49 +158,50 @@ module _ (g : Graph) (order : List ℕ) (topological : IsTopological g order) wh
           ((c : ℕ) → c < condition_count g → process_of g c ≡ p → is_active (activation_in s (step_of g p)) ≡ true →
           get_or o c false ≡ v) →
           Follows g order (k + 1) next o
-      follows_on o f own = record {
-        takes = λ c l m value is. elim (cases_eq (process_of g c) p) [
-          | inl e ↦
-              let r = some_standing (activation_in s (step_of g p)) v value
-              (sym next_here ∙ subst (λ q. get_or next q None ≡ Some value) e is) in
-              own c l e r.0 ∙ r.1
-          | inr n ↦ f.takes c l (let d = place_differs (process_of g c) p (process_of_below g c l) h n in
-              omega arith) value (sym (next_before (process_of g c) n) ∙ is)
+      follows_on o follows own = record {
+        takes = λ c below before_next value is. elim (cases_eq (process_of g c) p) [
+          | inl is_its ↦
+              let standing_parts = some_standing (activation_in s (step_of g p)) v value
+              (sym next_here ∙ subst (λ q. get_or next q None ≡ Some value) is_its is) in
+              own c below is_its standing_parts.0 ∙ standing_parts.1
+          | inr is_other ↦ follows.takes c below
+              (let places_differ = place_differs (process_of g c) p (process_of_below g c below) h is_other in
+              omega arith) value (sym (next_before (process_of g c) is_other) ∙ is)
         ];
       }
 
       -- an active process without a choice has no condition
       no_condition : (a : Activation) (x : Option ℕ) (c : ℕ) → choice a x ≡ None → is_active a ≡ true → x ≡ Some c → ⊥
-      no_condition Inactive x c e f i = cc
-      no_condition Plain x c e f i = cc
-      no_condition (By j) x c e f i = cc
+      no_condition Inactive x c a_is is_true x_is = cc
+      no_condition Plain x c a_is is_true x_is = cc
+      no_condition (By j) x c a_is is_true x_is = cc
 
       -- if one way alone is taken, all outcomes take it
       pub follows_one_way : choice (activation_in s (step_of g p)) (condition_of g p) ≡ None → (o : List Bool) →
           Follows g order k s o →
           Follows g order (k + 1) next o
-      follows_one_way none o f = follows_on o f
+      follows_one_way none o follows = follows_on o follows
           (λ c i j active. absurd (no_condition (activation_in s (step_of g p)) (condition_of g p) c none active
           (subst (λ x. condition_of g x ≡ Some c) j (condition_of_process_of g c i))))
 
       -- what is to be chosen is the process's condition
       chosen : (a : Activation) (x : Option ℕ) (c : ℕ) → choice a x ≡ Some c → x ≡ Some c
-      chosen Inactive x c e = cc
-      chosen Plain x c e = e
-      chosen (By j) x c e = e
+      chosen Inactive x c is = cc
+      chosen Plain x c is = is
+      chosen (By j) x c is = is
 
       -- if both ways are taken, the condition that is chosen is that of the process
       pub its_condition : (c : ℕ) → choice (activation_in s (step_of g p)) (condition_of g p) ≡ Some c →
           condition_of g p ≡ Some c
-      its_condition c e = chosen (activation_in s (step_of g p)) (condition_of g p) c e
+      its_condition c is = chosen (activation_in s (step_of g p)) (condition_of g p) c is
 
       -- an outcome takes the way of the value of its condition
       pub follows_value : (c : ℕ) → choice (activation_in s (step_of g p)) (condition_of g p) ≡ Some c →
           (o : List Bool) → get_or o c false ≡ v → Follows g order k s o →
           Follows g order (k + 1) next o
-      follows_value c some o value f =
+      follows_value c some o value follows =
           let its = its_condition c some in
-          follows_on o f (λ d i j active. ap (λ x. get_or o x false) (same_condition g d c i
+          follows_on o follows (λ d i j active. ap (λ x. get_or o x false) (same_condition g d c i
           (condition_of_below g p c its) (j ∙ sym (process_of_condition_of g p c its))) ∙ value)
 
       -- a process has a standing exactly if it is active
@@ -210,11 +215,12 @@ module _ (g : Graph) (order : List ℕ) (topological : IsTopological g order) wh
       pub settled_next : AreSettled g order (k + 1) next
       settled_next = record {
         long = length-set s p (standing (activation_in s (step_of g p)) v) ∙ are.long;
-        right = λ o f q l m. elim (cases_eq q p) [
-          | inl e ↦ ap (λ x. is_some (get_or next x None)) e ∙ ap is_some next_here
+        right = λ o follows q q_below before_next. elim (cases_eq q p) [
+          | inl is_p ↦ ap (λ x. is_some (get_or next x None)) is_p ∙ ap is_some next_here
               ∙ is_some-standing (activation_in s (step_of g p))
-              ∙ ap is_active (activation_here o (follows_back o f) p h at) ∙ ap (active g o) (sym e)
-          | inr n ↦ ap is_some (next_before q n)
-              ∙ are.right o (follows_back o f) q l (let d = place_differs q p l h n in omega arith)
+              ∙ ap is_active (activation_here o (follows_back o follows) p h at) ∙ ap (active g o) (sym is_p)
+          | inr is_other ↦ ap is_some (next_before q is_other)
+              ∙ are.right o (follows_back o follows) q q_below
+              (let places_differ = place_differs q p q_below h is_other in omega arith)
         ];
       }

@@ -22,11 +22,12 @@ module _ (g : Graph) (order : List ℕ) where
   -- By induction on the tree: the condition at the top, or one further down, which stands later still.
   way_within : (k : ℕ) (t : Guard) (o : List Bool) → IsOrderedFrom g order k t → (c : ℕ) → Contains (way t o) c →
       (c < condition_count g) × (k ≤ place order (process_of g c))
-  way_within k (Leaf a) o h c d = absurd (Contains-nil c d)
-  way_within k (Test e off on) o h c d = elim (Contains-cases e _ c d) [
-    | inl is ↦ subst (λ x. (x < condition_count g) × (k ≤ place order (process_of g x))) is (h.0, h.1)
-    | inr m ↦ go (get_or o e false) m (λ i. way_within (place order (process_of g e) + 1) on o h.3 c i)
-        (λ i. way_within (place order (process_of g e) + 1) off o h.2 c i)
+  way_within k (Leaf a) o ordered c on_way = absurd (Contains-nil c on_way)
+  way_within k (Test e off on) o ordered c on_way = elim (Contains-cases e _ c on_way) [
+    | inl is ↦ subst (λ x. (x < condition_count g) × (k ≤ place order (process_of g x))) is (ordered.0, ordered.1)
+    | inr further_down ↦ go (get_or o e false) further_down
+        (λ i. way_within (place order (process_of g e) + 1) on o ordered.3 c i)
+        (λ i. way_within (place order (process_of g e) + 1) off o ordered.2 c i)
   ]
     where
       -- by the value of the tested condition
@@ -36,21 +37,35 @@ module _ (g : Graph) (order : List ℕ) where
           → (Contains (way off o) c →
           (c < condition_count g) × (place order (process_of g e) + 1 ≤ place order (process_of g c)))
           → (c < condition_count g) × (k ≤ place order (process_of g c))
-      go true i f j = let r = f i in (r.0, let a = r.1 in let b = h.1 in omega arith)
-      go false i f j = let r = j i in (r.0, let a = r.1 in let b = h.1 in omega arith)
+      go true among if_on if_off =
+          let deeper = if_on among in
+          (deeper.0, let deeper_place = deeper.1 in let top_place = ordered.1 in omega arith)
+      go false among if_on if_off =
+          let deeper = if_off among in
+          (deeper.0, let deeper_place = deeper.1 in let top_place = ordered.1 in omega arith)
 
   -- On the way through an ordered tree the processes of the conditions rise in the order.
   -- By induction on the tree: all conditions further down stand later than the one at the top.
   way_rises : (k : ℕ) (t : Guard) (o : List Bool) → IsOrderedFrom g order k t → Rises Sooner (way t o)
-  way_rises k (Leaf a) o h = tt
-  way_rises k (Test c off on) o h = go (get_or o c false) (way_rises (place order (process_of g c) + 1) off o h.2)
-      (way_rises (place order (process_of g c) + 1) on o h.3)
+  way_rises k (Leaf a) o ordered = tt
+  way_rises k (Test c off on) o ordered = go (get_or o c false)
+      (way_rises (place order (process_of g c) + 1) off o ordered.2)
+      (way_rises (place order (process_of g c) + 1) on o ordered.3)
     where
       -- by the value of the tested condition
       go : (v : Bool) → Rises Sooner (way off o) → Rises Sooner (way on o) →
           Rises Sooner (c ∷ (if v then way on o else way off o))
-      go true i j = (λ d m. let r = (way_within (place order (process_of g c) + 1) on o h.3 d m).1 in omega arith, j)
-      go false i j = (λ d m. let r = (way_within (place order (process_of g c) + 1) off o h.2 d m).1 in omega arith, i)
+      go true o_rises j = (
+        λ next on_way.
+            let deeper = (way_within (place order (process_of g c) + 1) on o ordered.3 next on_way).1 in omega arith,
+        j,
+      )
+      go false o_rises j = (
+        λ next on_way.
+            let deeper = (way_within (place order (process_of g c) + 1) off o ordered.2 next on_way).1 in
+            omega arith,
+        o_rises,
+      )
 
 -- An outcome's way through the tree of a process tests exactly the conditions that decide, in urgency order.
 -- Both lists rise along the order and have the same conditions, so they are equal.

@@ -76,8 +76,9 @@ pub record IsSharing (s : Sharing) : Type 0 where
 pub record Extends (old new : Sharing) : Type 0 where
   -- the ranks are the same
   pub ranks : new.ranks ≡ old.ranks
-  -- each part is still there, with the same tree
+  -- each old part is still there
   pub longer : length old.parts ≤ length new.parts
+  -- each old part has the same tree
   pub same : (n : ℕ) → n < length old.parts → tree_at new.parts n ≡ tree_at old.parts n
 
 -- the new parts are the old ones, with others added or none, and part n has the tree

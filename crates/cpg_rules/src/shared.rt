@@ -62,7 +62,7 @@ pub enum Ask {
         /// The other part.
         second: usize,
     },
-    /// Whether two parts are never active at once. It is kept only if they aren't.
+    /// Whether two parts are never active at once. An answer is kept only if they never are.
     Apart {
         /// One part.
         first: usize,

@@ -19,37 +19,41 @@ use Rattle.cpg_run.specs.Progress.{IsSentBefore, IsFree, IsReady, Knows, IsAt, P
 
 -- over plain numbers: a moment before the first of the place i, i * m, belongs to an earlier place
 pub earlier_place : (a i f m : ℕ) → a * m + f < i * m → a < i
-earlier_place a i f m h =
-    elim (cases_lt a i) [ inl l ↦ l | inr l ↦ absurd (let k = mul-le-mul_right m l in omega arith) ]
+earlier_place a i f m before_i =
+    elim (cases_lt a i) [
+      | inl by_place ↦ by_place
+      | inr by_place ↦ absurd (let product = mul-le-mul_right m by_place in omega arith)
+    ]
 
 module _ (g : Graph) (order : List ℕ) (topological : IsTopological g order) where
   -- given: two lists of times that agree before the first moment of place i
   module _ (s : Scenario) (t u : Times) (i : ℕ) (a : AgreeBefore g order t u (i * phases g)) where
     -- the items of a process before the place have their moments before the place begins
     pub item_before : (x : ℕ) → x < item_count g → place order (producer g x) < i → moment g order x < i * phases g
-    item_before x h l = sooner (place order (producer g x)) i (phase (item_at g x)) (phases g) l (phase_below g x h)
+    item_before x below less = sooner (place order (producer g x)) i (phase (item_at g x))
+        (phases g) less (phase_below g x below)
 
     -- the end of a process before the place has its moment before the place begins
     pub end_before : (p : ℕ) → place order p < i → moment_of_end g order p < i * phases g
-    end_before p l = sooner (place order p) i 1 (phases g) l (omega arith)
+    end_before p less = sooner (place order p) i 1 (phases g) less (omega arith)
 
     -- the broadcast of a condition of a process before the place has its moment before the place begins
     broadcast_before : (c : ℕ) → place order (process_of g c) < i → moment g order (broadcast_item g c) < i * phases g
-    broadcast_before c l = subst (λ x. moment_of_item g order x < i * phases g) (sym (item_at-broadcast g c))
-        (sooner (place order (process_of g c)) i 2 (phases g) l (omega arith))
+    broadcast_before c less = subst (λ x. moment_of_item g order x < i * phases g) (sym (item_at-broadcast g c))
+        (sooner (place order (process_of g c)) i 2 (phases g) less (omega arith))
 
     -- a process before the place has the same end in both
     end_same : (p : ℕ) → p < process_count g → place order p < i → end_in t p ≡ end_in u p
-    end_same p h l = ap (λ o. unwrap_or o 0) (a.ends p h (end_before p l))
+    end_same p below less = ap (λ o. unwrap_or o 0) (a.ends p below (end_before p less))
 
     -- a condition that decides a process before the place is heard by a node at the same time in both runs
     heard_same : (node q c : ℕ) → place order q < i → c < condition_count g → decides g s.values q c ≡ true →
         heard_there g t node c ≡ heard_there g u node c
-    heard_same node q c l k d =
+    heard_same node q c less below is_true =
         let up : place order (process_of g c) < i =
-        omega (arith, decides_earlier g order topological s.values q c k d) in
+        omega (arith, decides_earlier g order topological s.values q c below is_true) in
         ap₂ (λ v w. if node_of g (process_of g c) == node then v else w)
-        (end_same (process_of g c) (process_of_below g c k) up)
+        (end_same (process_of g c) (process_of_below g c below) up)
         (ap (λ o. unwrap_or o 0 + slot_length g (home g (broadcast_item g c)))
         (a.items (broadcast_item g c) (omega arith) (broadcast_before c up)))
 
@@ -98,8 +102,10 @@ module _ (g : Graph) (order : List ℕ) (topological : IsTopological g order) wh
   along_same frozen others s i p same along = record {
     places = along.places;
     at = λ u run.
-        let r = a_run g order frozen s topological in
-        at_same s r.0 u i (agree_before g order topological s r.0 u frozen others r.1 run (i * phases g)
-        (λ x h l. same x h (earlier_place (place order (producer g x)) i (phase (item_at g x)) (phases g) l)))
-        p.known p.ready p.free (along.at r.0 r.1);
+        let found_run = a_run g order frozen s topological in
+        at_same s found_run.0 u i (agree_before g order topological s found_run.0 u frozen others found_run.1 run
+        (i * phases g)
+        (λ x below earlier. same x below
+        (earlier_place (place order (producer g x)) i (phase (item_at g x)) (phases g) earlier)))
+        p.known p.ready p.free (along.at found_run.0 found_run.1);
   }

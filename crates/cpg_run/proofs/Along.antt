@@ -26,16 +26,20 @@ module _ (g : Graph) (order : List ℕ) where
         → ((t : Times) → IsRun g order frozen s t → Knows g order t (process_count g) known)
         → IsRun g order frozen s (record known { finish = greatest (flat_map option_to_list known.ends) })
     at_last known items processes knows =
-        let r = a_run g order frozen s topological in
-        let t = r.0 in
-        let run : IsRun g order frozen s t = r.1 in
-        let k = knows t run in
-        let times : known.times ≡ t.times = ext_get_or None known.times t.times
-        (items ∙ sym (ap length run.times ∙ length-map-range_with_len (time_by g order frozen s t) 0 (item_count g)))
-        (λ x l. k.times x (omega arith) (place_in_order (process_count g) order topological.all (producer g x)
-        (let b = producer_in_range g order topological x (omega arith) in omega arith))) in
-        let ends : known.ends ≡ t.ends = ext_get_or None known.ends t.ends
-        (processes ∙ sym (ap length run.ends ∙ length-map-range_with_len (end_by g s t) 0 (process_count g)))
-        (λ p l. k.ends p (omega arith) (place_in_order (process_count g) order topological.all p (omega arith))) in
-        subst (IsRun g order frozen s) (same_times known t (greatest (flat_map option_to_list known.ends)) times ends
+        let found_run = a_run g order frozen s topological in
+        let times_found = found_run.0 in
+        let run : IsRun g order frozen s times_found = found_run.1 in
+        let known_of_t = knows times_found run in
+        let times : known.times ≡ times_found.times = ext_get_or None known.times times_found.times
+        (items ∙ sym (ap length run.times ∙ length-map-range_with_len (time_by g order frozen s times_found) 0
+        (item_count g)))
+        (λ x below. known_of_t.times x (omega arith)
+        (place_in_order (process_count g) order topological.all (producer g x)
+        (let producer_below = producer_in_range g order topological x (omega arith) in omega arith))) in
+        let ends : known.ends ≡ times_found.ends = ext_get_or None known.ends times_found.ends
+        (processes ∙ sym (ap length run.ends ∙ length-map-range_with_len (end_by g s times_found) 0 (process_count g)))
+        (λ p below. known_of_t.ends p (omega arith)
+        (place_in_order (process_count g) order topological.all p (omega arith))) in
+        subst (IsRun g order frozen s) (same_times known times_found
+        (greatest (flat_map option_to_list known.ends)) times ends
         (ap (λ es. greatest (flat_map option_to_list es)) ends ∙ sym run.finish)) run

@@ -17,7 +17,9 @@ use Rattle.cpg_run.specs.Run.{hearing_bounds, start_bounds, send_bounds}
 -- each element of `map f xs` is at most b, if f is at most b on the elements of xs
 pub passing_le : (f : ℕ → ℕ) (xs : List ℕ) (v b : ℕ) → ((x : ℕ) → Contains xs x → f x ≤ b) → Contains (map f xs) v →
     v ≤ b
-passing_le f xs v b h c = let r = Contains-map_parts f xs v c in subst (λ n. n ≤ b) r.2 (h r.0 r.1)
+passing_le f xs v b each_within among =
+    let from_element = Contains-map_parts f xs v among in
+    subst (λ n. n ≤ b) from_element.2 (each_within from_element.0 from_element.1)
 
 -- given: the times t of a scenario s
 module _ (g : Graph) (order : List ℕ) (s : Scenario) (t : Times) where
@@ -32,17 +34,20 @@ module _ (g : Graph) (order : List ℕ) (s : Scenario) (t : Times) where
   start_bounds_le p b release arrived ended heard = greatest-le (start_bounds g order s t p) b
       (λ v c. elim (Contains-cases (process_at g p).release
       (input_bounds g s t p ++ processor_bounds g order s t p ++ hearing_bounds g order s t p) v c) [
-        | inl e ↦ subst (λ n. n ≤ b) e release
+        | inl is_head ↦ subst (λ n. n ≤ b) is_head release
         | inr rest ↦ elim (Contains-append_cases (input_bounds g s t p ++ processor_bounds g order s t p)
             (hearing_bounds g order s t p) v rest) [
-              | inr h ↦ passing_le (heard_there g t (node_of g p)) _ v b heard h
+              | inr in_right ↦ passing_le (heard_there g t (node_of g p)) _ v b heard in_right
               | inl early ↦
                   elim (Contains-append_cases (input_bounds g s t p) (processor_bounds g order s t p) v early) [
-                    | inl i ↦ passing_le (input_there g t) (filter (live g s.values) (inputs g p)) v b
-                        (λ e k. let r = Contains-filter_parts (live g s.values) (inputs g p) e k in arrived e r.0 r.1) i
-                    | inr q ↦ passing_le (end_in t) (filter (active g s.values) (before_on_node g order p)) v b
-                        (λ o k. let r = Contains-filter_parts (active g s.values) (before_on_node g order p) o k in
-                        ended o r.0 r.1) q
+                    | inl in_left ↦ passing_le (input_there g t) (filter (live g s.values) (inputs g p)) v b
+                        (λ e among.
+                        let parts = Contains-filter_parts (live g s.values) (inputs g p) e among in
+                        arrived e parts.0 parts.1) in_left
+                    | inr in_right ↦ passing_le (end_in t) (filter (active g s.values) (before_on_node g order p)) v b
+                        (λ o among.
+                        let parts = Contains-filter_parts (active g s.values) (before_on_node g order p) o among in
+                        ended o parts.0 parts.1) in_right
                   ]
             ]
       ])
@@ -55,9 +60,9 @@ module _ (g : Graph) (order : List ℕ) (s : Scenario) (t : Times) where
       → greatest (send_bounds g order s t x) ≤ b
   send_bounds_le x b next queued = greatest-le (send_bounds g order s t x) b
       (λ v c. elim (Contains-cases (next_slot g (home g x) (end_in t (producer g x))) _ v c) [
-        | inl e ↦ subst (λ n. n ≤ b) e next
+        | inl is_head ↦ subst (λ n. n ≤ b) is_head next
         | inr rest ↦ passing_le (λ y. time_in t y + round g)
             (filter (λ y. item_active g s.values (item_at g y)) (queued_before g order x)) v b
-            (λ y k. let r = Contains-filter_parts (λ y. item_active g s.values (item_at g y))
-            (queued_before g order x) y k in queued y r.0 r.1) rest
+            (λ y among. let parts = Contains-filter_parts (λ y. item_active g s.values (item_at g y))
+            (queued_before g order x) y among in queued y parts.0 parts.1) rest
       ])

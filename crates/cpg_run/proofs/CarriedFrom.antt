@@ -43,38 +43,41 @@ use Rattle.cpg_run.proofs.SameSends.{producer_active}
 
 -- what is in `if b then xs else []` is in xs, and b is true
 in_if : {X : Type 0} (b : Bool) (xs : List X) (x : X) → Contains (if b then xs else []) x → (b ≡ true) × Contains xs x
-in_if true xs x j = (refl, j)
-in_if false xs x j = absurd (Contains-nil x j)
+in_if true xs x among = (refl, among)
+in_if false xs x among = absurd (Contains-nil x among)
 
 -- what is in `if b then [] else xs` is in xs, and b is false
 in_unless : {X : Type 0} (b : Bool) (xs : List X) (x : X) → Contains (if b then [] else xs) x →
     (b ≡ false) × Contains xs x
-in_unless true xs x j = absurd (Contains-nil x j)
-in_unless false xs x j = (refl, j)
+in_unless true xs x among = absurd (Contains-nil x among)
+in_unless false xs x among = (refl, among)
 
 -- what is in a list of one element is that element
 in_one : {X : Type 0} (x y : X) → Contains (x ∷ []) y → y ≡ x
-in_one x y j = elim (Contains-cases x [] y j) [ inl e ↦ sym e | inr none ↦ absurd (Contains-nil y none) ]
+in_one x y among = elim (Contains-cases x [] y among) [
+  | inl is_head ↦ sym is_head
+  | inr none ↦ absurd (Contains-nil y none)
+]
 
 -- a variable by which an item is sent is that of its producer's condition
 pub sent_variable : (g : Graph) (x v : ℕ) → Contains (sent_value g (item_at g x)) v →
     (c : ℕ) × (c < condition_count g) × (v ≡ value_variable c) × (process_of g c ≡ producer g x)
-sent_variable g x v j = of_item (item_at g x) refl j
+sent_variable g x v v_among = of_item (item_at g x) refl v_among
   where
     -- by the kind of the item: a start and a broadcast carry no value, a message carries one if its edge asks for it
     of_item : (i : Item) → item_at g x ≡ i → Contains (sent_value g i) v →
         (c : ℕ) × (c < condition_count g) × (v ≡ value_variable c) × (process_of g c ≡ producer g x)
-    of_item (Start p) is j = absurd (Contains-nil v j)
-    of_item (Broadcast c) is j = absurd (Contains-nil v j)
-    of_item (Message e) is j =
-        let r = in_if (is_some (edge_at g e).when)
-        (map value_variable (option_to_list (condition_of g (source g e)))) v j in
-        let q = Contains-map_parts value_variable (option_to_list (condition_of g (source g e))) v r.1 in
-        let has = in_option (condition_of g (source g e)) q.0 q.1 in (
-          q.0,
-          (position-Some (λ q. q == source g e) (disjunctions g) q.0 0 has).0,
-          sym q.2,
-          process_of_condition_of g (source g e) q.0 has ∙ ap (producer_of_item g) (sym is),
+    of_item (Start p) is among = absurd (Contains-nil v among)
+    of_item (Broadcast c) is among = absurd (Contains-nil v among)
+    of_item (Message e) is among =
+        let asked = in_if (is_some (edge_at g e).when)
+        (map value_variable (option_to_list (condition_of g (source g e)))) v among in
+        let found = Contains-map_parts value_variable (option_to_list (condition_of g (source g e))) v asked.1 in
+        let has = in_option (condition_of g (source g e)) found.0 found.1 in (
+          found.0,
+          (position-Some (λ q. q == source g e) (disjunctions g) found.0 0 has).0,
+          sym found.2,
+          process_of_condition_of g (source g e) found.0 has ∙ ap (producer_of_item g) (sym is),
         )
 
 module _ (g : Graph) (order : List ℕ) (rows : List (List Column)) (s : Scenario) where
@@ -82,6 +85,7 @@ module _ (g : Graph) (order : List ℕ) (rows : List (List Column)) (s : Scenari
 
   -- m is a literal of a column in the row of y that matches s
   pub record FromRow (y : ℕ) (m : Literal) : Type 0 where
+    -- the column
     pub column : Column
     -- the column is one of the row
     pub stands : Contains (row_at rows y) column
@@ -92,11 +96,11 @@ module _ (g : Graph) (order : List ℕ) (rows : List (List Column)) (s : Scenari
 
   -- a literal that a row carries comes from a column of the row
   from_told : (y : ℕ) (m : Literal) → Contains (carried_by_row rows s y) m → FromRow y m
-  from_told y m j =
-      let r = Contains-flat_map_parts (λ (c : Column). c.cube)
-      (filter (λ (c : Column). matches c.cube s) (row_at rows y)) m j in
-      let q = Contains-filter_parts (λ (c : Column). matches c.cube s) (row_at rows y) r.0 r.1 in
-      record { column = r.0; stands = q.0; matched = q.1; literal = r.2 }
+  from_told y m among =
+      let from_column = Contains-flat_map_parts (λ (c : Column). c.cube)
+      (filter (λ (c : Column). matches c.cube s) (row_at rows y)) m among in
+      let kept = Contains-filter_parts (λ (c : Column). matches c.cube s) (row_at rows y) from_column.0 from_column.1 in
+      record { column = from_column.0; stands = kept.0; matched = kept.1; literal = from_column.2 }
 
   -- m is the value in s of a condition that decides q
   pub record FromValue (q : ℕ) (m : Literal) : Type 0 where
@@ -177,43 +181,55 @@ module _ (g : Graph) (order : List ℕ) (rows : List (List Column)) (s : Scenari
 
   -- a literal of `decided` is the value of a condition that decides the process
   in_decided : (q : ℕ) (m : Literal) → Contains (decided g s q) m → FromValue q m
-  in_decided q m j =
-      let r = Contains-map_parts (λ (c : ℕ). number_known s (value_variable c)) (deciding g s.values q) m j in
-      record { condition = r.0; decides = r.1; is = sym r.2 }
+  in_decided q m among =
+      let found = Contains-map_parts (λ (c : ℕ). number_known s (value_variable c)) (deciding g s.values q) m among in
+      record { condition = found.0; decides = found.1; is = sym found.2 }
 
   -- a literal of `heard` is from the row of the broadcast of a condition of another node
   in_heard : (q : ℕ) (m : Literal) → Contains (heard g rows s q) m → FromBroadcast q m
-  in_heard q m j =
-      let r = Contains-flat_map_parts (λ c. if node_of g (process_of g c) == node_of g q then []
-      else carried_by_row rows s (broadcast_item g c)) (deciding g s.values q) m j in
-      let t = in_unless (node_of g (process_of g r.0) == node_of g q)
-      (carried_by_row rows s (broadcast_item g r.0)) m r.2 in
-      record { condition = r.0; decides = r.1; other = t.0; row = from_told (broadcast_item g r.0) m t.1 }
+  in_heard q m among =
+      let from_condition = Contains-flat_map_parts (λ c. if node_of g (process_of g c) == node_of g q then []
+      else carried_by_row rows s (broadcast_item g c)) (deciding g s.values q) m among in
+      let elsewhere = in_unless (node_of g (process_of g from_condition.0) == node_of g q)
+      (carried_by_row rows s (broadcast_item g from_condition.0)) m from_condition.2 in
+      record {
+        condition = from_condition.0;
+        decides = from_condition.1;
+        other = elsewhere.0;
+        row = from_told (broadcast_item g from_condition.0) m elsewhere.1;
+      }
 
   -- a literal of `received` is from the row of a message
   in_received : (q : ℕ) (m : Literal) → Contains (received g rows s q) m → FromMessage q m
-  in_received q m j =
-      let r = Contains-flat_map_parts (λ e. if is_message g e then carried_by_row rows s (message_item g e) else [])
-      (inputs g q) m j in
-      let t = in_if (is_message g r.0) (carried_by_row rows s (message_item g r.0)) m r.2 in
-      record { edge = r.0; input = r.1; message = t.0; row = from_told (message_item g r.0) m t.1 }
+  in_received q m among =
+      let from_edge = Contains-flat_map_parts
+      (λ e. if is_message g e then carried_by_row rows s (message_item g e) else [])
+      (inputs g q) m among in
+      let arrived = in_if (is_message g from_edge.0) (carried_by_row rows s (message_item g from_edge.0))
+      m from_edge.2 in
+      record {
+        edge = from_edge.0;
+        input = from_edge.1;
+        message = arrived.0;
+        row = from_told (message_item g from_edge.0) m arrived.1;
+      }
 
   -- A literal that a process q before p on its node carries on is of one of the kinds of a process. It is a value that decides q
   -- or what a broadcast told of that; if q is active, it may be what a message told, unless q is frozen, or the count of q.
   in_passed : (p q : ℕ) (m : Literal) → Contains (before_on_node g order p) q → Contains (passed g rows s q) m →
       FromProcess p q m
-  in_passed p q m before j = elim (Contains-append_cases (decided g s q ++ heard g rows s q)
-      (if active g s.values q then executed g rows s q else []) m j) [
-        | inl a ↦ elim (Contains-append_cases (decided g s q) (heard g rows s q) m a) [
-          | inl b ↦ by_value (in_decided q m b)
-          | inr b ↦ by_broadcast (in_heard q m b)
+  in_passed p q m before among = elim (Contains-append_cases (decided g s q ++ heard g rows s q)
+      (if active g s.values q then executed g rows s q else []) m among) [
+        | inl in_left ↦ elim (Contains-append_cases (decided g s q) (heard g rows s q) m in_left) [
+          | inl in_left ↦ by_value (in_decided q m in_left)
+          | inr in_right ↦ by_broadcast (in_heard q m in_right)
         ]
-        | inr a ↦ let on = in_if (active g s.values q) (executed g rows s q) m a in
+        | inr in_right ↦ let on = in_if (active g s.values q) (executed g rows s q) m in_right in
             elim (Contains-append_cases (if (process_at g q).frozen then [] else received g rows s q)
             (number_known s q ∷ []) m on.1) [
-              | inl b ↦ let r = in_unless (process_at g q).frozen (received g rows s q) m b in
-                  by_message on.0 r.0 (in_received q m r.1)
-              | inr b ↦ by_count before on.0 (in_one (number_known s q) m b)
+              | inl in_left ↦ let unfrozen = in_unless (process_at g q).frozen (received g rows s q) m in_left in
+                  by_message on.0 unfrozen.0 (in_received q m unfrozen.1)
+              | inr in_right ↦ by_count before on.0 (in_one (number_known s q) m in_right)
             ]
       ]
 
@@ -224,22 +240,24 @@ module _ (g : Graph) (order : List ℕ) (rows : List (List Column)) (s : Scenari
     in_free : (p : ℕ) (m : Literal) → active g s.values p ≡ true → (process_at g p).frozen ≡ false →
         Contains (flat_map (passed g rows s) (before_on_node g order p) ++ decided g s p ++ heard g rows s p
         ++ received g rows s p) m → FromFree p m
-    in_free p m on free j = elim (Contains-append_cases (flat_map (passed g rows s) (before_on_node g order p)
-        ++ decided g s p ++ heard g rows s p) (received g rows s p) m j) [
-          | inr a ↦ here (by_message on free (in_received p m a))
-          | inl a ↦ elim (Contains-append_cases (flat_map (passed g rows s) (before_on_node g order p) ++ decided g s p)
-              (heard g rows s p) m a) [
-                | inr b ↦ here (by_broadcast (in_heard p m b))
-                | inl b ↦
+    in_free p m on free among = elim (Contains-append_cases (flat_map (passed g rows s) (before_on_node g order p)
+        ++ decided g s p ++ heard g rows s p) (received g rows s p) m among) [
+          | inr in_right ↦ here (by_message on free (in_received p m in_right))
+          | inl in_left ↦ elim (Contains-append_cases (flat_map (passed g rows s)
+              (before_on_node g order p) ++ decided g s p)
+              (heard g rows s p) m in_left) [
+                | inr in_right ↦ here (by_broadcast (in_heard p m in_right))
+                | inl in_left ↦
                     elim (Contains-append_cases (flat_map (passed g rows s) (before_on_node g order p))
-                    (decided g s p) m b) [
-                      | inr c ↦ here (by_value (in_decided p m c))
-                      | inl c ↦ let r = Contains-flat_map_parts (passed g rows s) (before_on_node g order p) m c in
+                    (decided g s p) m in_left) [
+                      | inr in_right ↦ here (by_value (in_decided p m in_right))
+                      | inl in_left ↦ let from_before = Contains-flat_map_parts (passed g rows s)
+                          (before_on_node g order p) m in_left in
                           record {
                             free = free;
-                            process = r.0;
-                            stands = up_to_before g order topological p r.0 r.1;
-                            told = in_passed p r.0 m r.1 r.2;
+                            process = from_before.0;
+                            stands = up_to_before g order topological p from_before.0 from_before.1;
+                            told = in_passed p from_before.0 m from_before.1 from_before.2;
                           }
                     ]
               ]
@@ -247,67 +265,72 @@ module _ (g : Graph) (order : List ℕ) (rows : List (List Column)) (s : Scenari
       where
         -- what p itself gives
         here : FromProcess p p m → FromFree p m
-        here f = record { free = free; process = p; stands = up_to_itself g order topological p; told = f }
+        here itself =
+            record { free = free; process = p; stands = up_to_itself g order topological p; told = itself }
 
     -- each literal that is carried beside the start of an active process is of one of the kinds of a start
     pub from_start_of : (p : ℕ) (m : Literal) → active g s.values p ≡ true →
         Contains (carried_at_start g order rows s p) m → FromStart p m
-    from_start_of p m on j = elim (cases_Bool (process_at g p).frozen) [
-      | inl f ↦ own (in_decided p m (subst (λ ls. Contains ls m) (cond-true _ _ _ f) j))
-      | inr f ↦ more (in_free p m on f (subst (λ ls. Contains ls m) (cond-false _ _ _ f) j))
+    from_start_of p m on among = elim (cases_Bool (process_at g p).frozen) [
+      | inl frozen_or_not ↦ own (in_decided p m (subst (λ ls. Contains ls m) (cond-true _ _ _ frozen_or_not) among))
+      | inr frozen_or_not ↦ more (in_free p m on frozen_or_not (subst (λ ls. Contains ls m)
+          (cond-false _ _ _ frozen_or_not) among))
     ]
 
     -- each that is carried beside its end is of a start or is the count of the process
     pub from_end_of : (p : ℕ) (m : Literal) → active g s.values p ≡ true →
         Contains (carried_at_end g order rows s p) m → FromEnd p m
-    from_end_of p m on j =
-        elim (Contains-append_cases (carried_at_start g order rows s p) (number_known s p ∷ []) m j) [
-          | inl a ↦ from_start (from_start_of p m on a)
-          | inr a ↦ its_count (in_one (number_known s p) m a)
+    from_end_of p m on among =
+        elim (Contains-append_cases (carried_at_start g order rows s p) (number_known s p ∷ []) m among) [
+          | inl in_left ↦ from_start (from_start_of p m on in_left)
+          | inr in_right ↦ its_count (in_one (number_known s p) m in_right)
         ]
 
     -- a literal of `sent_by_value` is the value by which the item is sent
     in_sent : (x : ℕ) (m : Literal) → Contains (sent_by_value g s x) m → FromSent x m
-    in_sent x m j = let r = Contains-map_parts (number_known s) (sent_value g (item_at g x)) m j in
-        record { variable = r.0; stands = r.1; is = sym r.2 }
+    in_sent x m among = let found = Contains-map_parts (number_known s) (sent_value g (item_at g x)) m among in
+        record { variable = found.0; stands = found.1; is = sym found.2 }
 
     -- a literal that an item in the queue leaves is what decides its producer, the value by which it is sent, or, if it is sent and
     -- isn't frozen, what is carried at its producer's end
     in_queued : (y : ℕ) (m : Literal) → Contains (queued g order rows s y) m → FromQueued y m
-    in_queued y m j = elim (Contains-append_cases (decided g s (producer g y)
+    in_queued y m among = elim (Contains-append_cases (decided g s (producer g y)
         ++ (if active g s.values (producer g y) then sent_by_value g s y else []))
         (if item_active g s.values (item_at g y) && not (is_frozen g y)
-        then carried_at_end g order rows s (producer g y) else []) m j) [
-          | inl a ↦ elim (Contains-append_cases (decided g s (producer g y))
-              (if active g s.values (producer g y) then sent_by_value g s y else []) m a) [
-                | inl b ↦ left_value (in_decided (producer g y) m b)
-                | inr b ↦ let r = in_if (active g s.values (producer g y)) (sent_by_value g s y) m b in
-                    left_sent r.0 (in_sent y m r.1)
+        then carried_at_end g order rows s (producer g y) else []) m among) [
+          | inl in_left ↦ elim (Contains-append_cases (decided g s (producer g y))
+              (if active g s.values (producer g y) then sent_by_value g s y else []) m in_left) [
+                | inl in_left ↦ left_value (in_decided (producer g y) m in_left)
+                | inr in_right ↦ let left = in_if (active g s.values (producer g y)) (sent_by_value g s y) m in_right in
+                    left_sent left.0 (in_sent y m left.1)
               ]
-          | inr a ↦
-              let r = in_if (item_active g s.values (item_at g y) && not (is_frozen g y))
-              (carried_at_end g order rows s (producer g y)) m a in
-              let q = and_parts (item_active g s.values (item_at g y)) (not (is_frozen g y)) r.0 in
-              left_end q.0 (not-true (is_frozen g y) q.1)
-              (from_end_of (producer g y) m (producer_active g s.values (item_at g y) q.0) r.1)
+          | inr in_right ↦
+              let left = in_if (item_active g s.values (item_at g y) && not (is_frozen g y))
+              (carried_at_end g order rows s (producer g y)) m in_right in
+              let parts = and_parts (item_active g s.values (item_at g y)) (not (is_frozen g y)) left.0 in
+              left_end parts.0 (not-true (is_frozen g y) parts.1)
+              (from_end_of (producer g y) m (producer_active g s.values (item_at g y) parts.0) left.1)
         ]
 
     -- A literal carried beside an active send is of one of the kinds of a send: the value by which it is sent; for a frozen item
     -- what decides its producer; for any other what an item before it leaves, or what is carried at its producer's end.
     pub from_send_of : (x : ℕ) (m : Literal) → item_active g s.values (item_at g x) ≡ true →
         Contains (carried_at_send g order rows s x) m → FromSend x m
-    from_send_of x m on j = elim (Contains-append_cases
+    from_send_of x m on among = elim (Contains-append_cases
         (if is_frozen g x then decided g s (producer g x) else flat_map (queued g order rows s)
-        (queued_before g order x) ++ carried_at_end g order rows s (producer g x)) (sent_by_value g s x) m j) [
-          | inr a ↦ of_value (in_sent x m a)
-          | inl a ↦ elim (cases_Bool (is_frozen g x)) [
-            | inl f ↦ of_producer f (in_decided (producer g x) m (subst (λ ls. Contains ls m) (cond-true _ _ _ f) a))
-            | inr f ↦ elim (Contains-append_cases (flat_map (queued g order rows s) (queued_before g order x))
+        (queued_before g order x) ++ carried_at_end g order rows s (producer g x)) (sent_by_value g s x) m among) [
+          | inr in_right ↦ of_value (in_sent x m in_right)
+          | inl in_left ↦ elim (cases_Bool (is_frozen g x)) [
+            | inl is_true ↦ of_producer is_true (in_decided (producer g x) m (subst (λ ls. Contains ls m)
+                (cond-true _ _ _ is_true) in_left))
+            | inr is_false ↦ elim (Contains-append_cases (flat_map (queued g order rows s) (queued_before g order x))
                 (carried_at_end g order rows s (producer g x)) m
-                (subst (λ ls. Contains ls m) (cond-false _ _ _ f) a)) [
-                  | inl b ↦ let r = Contains-flat_map_parts (queued g order rows s) (queued_before g order x) m b in
-                      of_queue f r.0 r.1 (in_queued r.0 m r.2)
-                  | inr b ↦ of_end f (from_end_of (producer g x) m (producer_active g s.values (item_at g x) on) b)
+                (subst (λ ls. Contains ls m) (cond-false _ _ _ is_false) in_left)) [
+                  | inl in_left ↦ let from_item = Contains-flat_map_parts (queued g order rows s)
+                      (queued_before g order x) m in_left in
+                      of_queue is_false from_item.0 from_item.1 (in_queued from_item.0 m from_item.2)
+                  | inr in_right ↦ of_end is_false (from_end_of (producer g x) m
+                      (producer_active g s.values (item_at g x) on) in_right)
                 ]
           ]
         ]
@@ -323,77 +346,87 @@ module _ (g : Graph) (order : List ℕ) (rows : List (List Column)) (s : Scenari
     module _ (few : process_count g ≤ 128) (bound : ℕ) (m : Literal) where
       -- the value of a condition is a number of the scenario
       value_is : (q : ℕ) → FromValue q m → IsOf bound m
-      value_is q f =
-          let r =
-          Contains-filter_parts (decides g s.values q) (numbers_below (condition_count g)) f.condition f.decides in
-          of_number (value_variable f.condition)
-          (inr (omega arith, omega (arith, numbers-Contains (condition_count g) f.condition r.0))) f.is
+      value_is q from_value =
+          let parts =
+          Contains-filter_parts (decides g s.values q) (numbers_below (condition_count g))
+          from_value.condition from_value.decides in
+          of_number (value_variable from_value.condition)
+          (inr (omega arith, omega (arith, numbers-Contains (condition_count g) from_value.condition parts.0)))
+          from_value.is
 
       -- a literal that a process gives is a number of the scenario, if it is a value or a count of faults; it is from an earlier
       -- row, if a broadcast or a message told it
       process_is : (p q : ℕ) → q < process_count g → place order q ≤ bound → FromProcess p q m → IsOf bound m
-      process_is p q l at (by_value f) = value_is q f
-      process_is p q l at (by_broadcast f) = let e = hears_earlier g order topological s q f.condition f.decides in
-          of_row (broadcast_item g f.condition) (e.0, omega (arith, e.1, at)) f.row
-      process_is p q l at (by_message on free f) = let e = receives_earlier g order topological q f.edge f.input in
-          of_row (message_item g f.edge) (e.0, omega (arith, e.1, at)) f.row
-      process_is p q l at (by_count before on is) = of_number q (inl l) is
+      process_is p q below at (by_value origin) = value_is q origin
+      process_is p q below at (by_broadcast origin) =
+          let earlier = hears_earlier g order topological s q origin.condition origin.decides in
+          of_row (broadcast_item g origin.condition) (earlier.0, omega (arith, earlier.1, at)) origin.row
+      process_is p q below at (by_message on free origin) =
+          let earlier = receives_earlier g order topological q origin.edge origin.input in
+          of_row (message_item g origin.edge) (earlier.0, omega (arith, earlier.1, at)) origin.row
+      process_is p q below at (by_count before on is) = of_number q (inl below) is
 
       -- a literal that is carried at a start is a number of the scenario or from an earlier row
       start_is : (p : ℕ) → p < process_count g → place order p ≤ bound → FromStart p m → IsOf bound m
-      start_is p l at (own f) = value_is p f
-      start_is p l at (more f) = let e = up_to_parts g order topological p f.process l f.stands in
-          process_is p f.process e.within (omega (arith, e.place, at)) f.told
+      start_is p below at (own origin) = value_is p origin
+      start_is p below at (more origin) =
+          let stand = up_to_parts g order topological p origin.process below origin.stands in
+          process_is p origin.process stand.within (omega (arith, stand.place, at)) origin.told
 
       -- a literal that is carried at an end is a number of the scenario or from an earlier row
       end_is : (p : ℕ) → p < process_count g → place order p ≤ bound → FromEnd p m → IsOf bound m
-      end_is p l at (from_start f) = start_is p l at f
-      end_is p l at (its_count is) = of_number p (inl l) is
+      end_is p below at (from_start origin) = start_is p below at origin
+      end_is p below at (its_count is) = of_number p (inl below) is
 
       -- the value by which an item is sent is a number of the scenario
       sent_is : (x : ℕ) → FromSent x m → IsOf bound m
-      sent_is x f = let c = sent_variable g x f.variable f.stands in
-          of_number f.variable (inr (omega (arith, c.2), omega (arith, c.1, c.2))) f.is
+      sent_is x sent = let its_condition = sent_variable g x sent.variable sent.stands in
+          of_number sent.variable (inr (
+            omega (arith, its_condition.2),
+            omega
+                (arith, its_condition.1, its_condition.2),
+          )) sent.is
 
       -- a literal that an item leaves in the queue is a number of the scenario or from an earlier row
       queued_is : (y : ℕ) → producer g y < process_count g → place order (producer g y) ≤ bound → FromQueued y m →
           IsOf bound m
-      queued_is y l at (left_value f) = value_is (producer g y) f
-      queued_is y l at (left_sent on f) = sent_is y f
-      queued_is y l at (left_end on free f) = end_is (producer g y) l at f
+      queued_is y below at (left_value origin) = value_is (producer g y) origin
+      queued_is y below at (left_sent on origin) = sent_is y origin
+      queued_is y below at (left_end on free origin) = end_is (producer g y) below at origin
 
       -- a literal that is carried beside a send is a number of the scenario or from an earlier row: the items before it in the
       -- queue are of no later process
       send_is : (x : ℕ) → producer g x < process_count g → place order (producer g x) ≤ bound → FromSend x m →
           IsOf bound m
-      send_is x l at (of_producer f v) = value_is (producer g x) v
-      send_is x l at (of_queue free y j f) =
-          let q = Contains-filter_parts (λ y. is_queued_before g order y x) (numbers_below (item_count g)) y j in
-          queued_is y (producer_in_range g order topological y (numbers-Contains (item_count g) y q.0))
-          (omega (arith, producer_no_later g order x y j, at)) f
-      send_is x l at (of_end free f) = end_is (producer g x) l at f
-      send_is x l at (of_value f) = sent_is x f
+      send_is x below at (of_producer origin value) = value_is (producer g x) value
+      send_is x below at (of_queue free y in_queue origin) =
+          let parts = Contains-filter_parts (λ y. is_queued_before g order y x) (numbers_below (item_count g))
+          y in_queue in
+          queued_is y (producer_in_range g order topological y (numbers-Contains (item_count g) y parts.0))
+          (omega (arith, producer_no_later g order x y in_queue, at)) origin
+      send_is x below at (of_end free origin) = end_is (producer g x) below at origin
+      send_is x below at (of_value origin) = sent_is x origin
 
       -- each literal carried by an active item of a process up to a place is a number of the scenario, or is in
       -- an earlier row
       pub carried_is : (x : ℕ) → x < item_count g → place order (producer g x) ≤ bound →
           item_active g s.values (item_at g x) ≡ true → Contains (carried g order rows s x) m → IsOf bound m
-      carried_is x l at on j = elim (item_cases g x l) [
-        | inl c ↦ start_is x c.0 (omega (arith, at, ap (λ i. place order (producer_of_item g i)) c.1))
-            (from_start_of x m (sym (ap (item_active g s.values) c.1) ∙ on)
-            (subst (λ i. Contains (carried_by_item g order rows s x i) m) c.1 j))
-        | inr (inl c) ↦ send_is x (producer_in_range g order topological x l) at
-            (from_send_of x m on (subst (λ i. Contains (carried_by_item g order rows s x i) m) c.3 j))
-        | inr (inr c) ↦ send_is x (producer_in_range g order topological x l) at
-            (from_send_of x m on (subst (λ i. Contains (carried_by_item g order rows s x i) m) c.3 j))
+      carried_is x below at on among = elim (item_cases g x below) [
+        | inl kind ↦ start_is x kind.0 (omega (arith, at, ap (λ i. place order (producer_of_item g i)) kind.1))
+            (from_start_of x m (sym (ap (item_active g s.values) kind.1) ∙ on)
+            (subst (λ i. Contains (carried_by_item g order rows s x i) m) kind.1 among))
+        | inr (inl kind) ↦ send_is x (producer_in_range g order topological x below) at
+            (from_send_of x m on (subst (λ i. Contains (carried_by_item g order rows s x i) m) kind.3 among))
+        | inr (inr kind) ↦ send_is x (producer_in_range g order topological x below) at
+            (from_send_of x m on (subst (λ i. Contains (carried_by_item g order rows s x i) m) kind.3 among))
       ]
 
     -- all that is carried in a scenario holds in it
     pub carried_holds : process_count g ≤ 128 → (x : ℕ) → x < item_count g →
         item_active g s.values (item_at g x) ≡ true →
         matches (carried g order rows s x) s ≡ true
-    carried_holds few x l on = all_from (holds s) (carried g order rows s x)
-        (λ m j. holds_is m (carried_is few (place order (producer g x)) m x l (omega arith) on j))
+    carried_holds few x below on = all_from (holds s) (carried g order rows s x)
+        (λ m among. holds_is m (carried_is few (place order (producer g x)) m x below (omega arith) on among))
       where
         -- a number of s holds in s, and a literal of a column that matches s does
         holds_is : (m : Literal) → IsOf (place order (producer g x)) m → holds s m ≡ true
@@ -405,7 +438,8 @@ module _ (g : Graph) (order : List ℕ) (rows : List (List Column)) (s : Scenari
         ((y : ℕ) → IsEarlier g order (place order (producer g x)) y → All (λ c. IsCube g c.cube) (row_at rows y)) →
         item_active g s.values (item_at g x) ≡ true → (m : Literal) → Contains (carried g order rows s x) m →
         IsVariable g m.variable
-    carried_known few x l cubes on m j = known_is (carried_is few (place order (producer g x)) m x l (omega arith) on j)
+    carried_known few x below cubes on m among = known_is (carried_is few (place order (producer g x))
+        m x below (omega arith) on among)
       where
         -- a number is of a variable of the graph by `IsOf`, and a literal of a column by its cube
         known_is : IsOf (place order (producer g x)) m → IsVariable g m.variable

@@ -28,13 +28,13 @@ module _ (g : Graph) (urgency order : List ℕ) (frozen : List (Option ℕ)) (ro
   -- each row is formed: its literals are on the item's reach, none is whole, and its columns match something, in
   -- order
   row_formed : (x : ℕ) → x < item_count g → IsFormed g urgency (reach_of r x) (row_at rows x)
-  row_formed x l = record {
+  row_formed x below = record {
     in_reach = every (λ (c : Column). All (λ (m : Literal). Contains (reach_of r x) m.variable) c.cube) (row_at rows x)
         (λ c j. every (λ (m : Literal). Contains (reach_of r x) m.variable) c.cube
-        (λ m i. rows_in_reach g urgency order frozen z.timed rows z.found r is x l c j m i));
-    not_whole = (z.found.each x l).not_whole;
-    met = (z.found.each x l).met;
-    ordered = (z.found.each x l).ordered;
+        (λ m i. rows_in_reach g urgency order frozen z.timed rows z.found r is x below c j m i));
+    not_whole = (z.found.each x below).not_whole;
+    met = (z.found.each x below).met;
+    ordered = (z.found.each x below).ordered;
   }
 
   -- the tables are exact: they have the times of the runs, and since their columns are the rows, these are formed and merged
@@ -53,9 +53,10 @@ module _ (g : Graph) (urgency order : List ℕ) (frozen : List (Option ℕ)) (ro
   -- an item has no more columns than its reach has views, as its row is formed and keeps V1 and V2
   within_views : process_count g ≤ 128 → (x : ℕ) → x < item_count g →
       length (columns_of tables x) ≤ views g (reach_of r x)
-  within_views few x l = columns_within_views g few (reach_of r x) urgency (columns_of tables x) (exact.formed x l)
+  within_views few x below = columns_within_views g few (reach_of r x) urgency (columns_of tables x)
+      (exact.formed x below)
       (row_keeps g tables x (λ s i lawful.
-      (rules Rule.Activity (λ e. cc) s lawful x l (Some i), rules Rule.Single (λ e. cc) s lawful x l (Some i))))
+      (rules Rule.Activity (λ e. cc) s lawful x below (Some i), rules Rule.Single (λ e. cc) s lawful x below (Some i))))
 
 -- tables of carrying rows are exact, supported and lawful, and no wider than the views allow
 pub carrying_tables_are_lawful : CarryingTablesAreLawful

@@ -27,18 +27,24 @@ module _ (g : Graph) (urgency order : List ℕ) (frozen : List (Option ℕ)) (ti
     (rows : List (List Column)) (all : AreCarrying g urgency order frozen rows) where
   -- a number beyond the items has no columns
   row_past : (x : ℕ) → item_count g ≤ x → row_at rows x ≡ []
-  row_past x l = get_or_past rows x [] (omega (arith, all.count, l))
+  row_past x at_most = get_or_past rows x [] (omega (arith, all.count, at_most))
 
   -- a number beyond the items has no time in a run
   time_past : (s : Scenario) (t : Times) → IsRun g order frozen s t → (x : ℕ) → item_count g ≤ x →
       get_or t.times x None ≡ None
-  time_past s t run x l = get_or_past t.times x None
-      (omega (arith, ap length run.times, length-map-range_with_len (time_by g order frozen s t) 0 (item_count g), l))
+  time_past s t run x at_most = get_or_past t.times x None
+      (omega (
+        arith,
+        ap length run.times,
+        length-map-range_with_len (time_by g order frozen s t) 0
+            (item_count g),
+        at_most,
+      ))
 
   -- every row has the times of the runs
   pub carrying_times : (x : ℕ) → HaveTimesOf g order frozen x (row_at rows x)
   carrying_times x s t law run = elim (cases_lt x (item_count g)) [
-    | inl l ↦ (all.each x l).times s t law run
+    | inl less ↦ (all.each x less).times s t law run
     | inr past ↦ ap (λ cs. times_in cs s) (row_past x past) ∙ sym (ap option_to_list (time_past s t run x past))
   ]
 
@@ -48,12 +54,13 @@ module _ (g : Graph) (urgency order : List ℕ) (frozen : List (Option ℕ)) (ti
       matches c.cube s ≡ true →
       (x < item_count g) ×
       (item_active g s.values (item_at g x) ≡ true)
-  carrying_active x c j s law h =
-      let r = a_run g order frozen s timed.admitted.topological in
+  carrying_active x c in_row s law matched =
+      let found_run = a_run g order frozen s timed.admitted.topological in
       let there = Contains-map (λ (c : Column). c.time) (filter (λ (c : Column). matches c.cube s) (row_at rows x)) c
-      (Contains-filter (λ (c : Column). matches c.cube s) (row_at rows x) c h j) in
-      let parts = time_parts g order frozen s r.0 r.1 x c.time (in_option (get_or r.0.times x None) c.time
-      (subst (λ ns. Contains ns c.time) (carrying_times x s r.0 law r.1) there)) in
+      (Contains-filter (λ (c : Column). matches c.cube s) (row_at rows x) c matched in_row) in
+      let parts = time_parts g order frozen s found_run.0 found_run.1 x c.time
+      (in_option (get_or found_run.0.times x None) c.time
+      (subst (λ ns. Contains ns c.time) (carrying_times x s found_run.0 law found_run.1) there)) in
       (parts.0, parts.1)
 
   -- an item that is active in no scenario has no column, as each column matches some scenario
@@ -61,9 +68,9 @@ module _ (g : Graph) (urgency order : List ℕ) (frozen : List (Option ℕ)) (ti
       row_at rows x ≡ []
   never_columns x never = elim (cases_lt x (item_count g)) [
     | inr past ↦ row_past x past
-    | inl l ↦ empty (row_at rows x) (λ c j.
+    | inl less ↦ empty (row_at rows x) (λ c j.
         let least = All-contains (λ (c : Column). (s : Scenario) × IsLeastMatch g urgency c s) (row_at rows x) c
-        (all.each x l).met j in
+        (all.each x less).met j in
         both_ways _ (never least.0 least.1.lawful) (carrying_active x c j least.0 least.1.lawful least.1.holds).1)
   ]
     where

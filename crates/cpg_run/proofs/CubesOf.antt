@@ -35,44 +35,54 @@ use Rattle.cpg_run.specs.Rows.{IsCubeOf}
 module _ (u : Scenario) where
   -- the first of two lists of literals holds if both hold together
   pub holds_left : (xs ys : List Literal) → matches (xs ++ ys) u ≡ true → matches xs u ≡ true
-  holds_left xs ys h = all_from (holds u) xs (λ m j. from_all (holds u) (xs ++ ys) m h (Contains-append_left xs ys m j))
+  holds_left xs ys matched = all_from (holds u) xs (λ m j. from_all (holds u)
+      (xs ++ ys) m matched (Contains-append_left xs ys m j))
 
   -- the second of two lists of literals holds if both hold together
   pub holds_right : (xs ys : List Literal) → matches (xs ++ ys) u ≡ true → matches ys u ≡ true
-  holds_right xs ys h =
-      all_from (holds u) ys (λ m j. from_all (holds u) (xs ++ ys) m h (Contains-append_right xs ys m j))
+  holds_right xs ys matched =
+      all_from (holds u) ys (λ m j. from_all (holds u) (xs ++ ys) m matched (Contains-append_right xs ys m j))
 
   -- if the literals of all elements hold, those of each element hold
   pub holds_each : {X : Type 0} (f : X → List Literal) (xs : List X) (x : X) → matches (flat_map f xs) u ≡ true →
       Contains xs x →
       matches (f x) u ≡ true
-  holds_each f xs x h j =
-      all_from (holds u) (f x) (λ m i. from_all (holds u) (flat_map f xs) m h (Contains-flat_map f xs x m j i))
+  holds_each f xs x matched among =
+      all_from (holds u) (f x) (λ m i. from_all (holds u) (flat_map f xs) m matched
+      (Contains-flat_map f xs x m among i))
 
   -- if two lists of literals hold, they hold together
   pub holds_both : (xs ys : List Literal) → matches xs u ≡ true → matches ys u ≡ true → matches (xs ++ ys) u ≡ true
-  holds_both xs ys h k = all_from (holds u) (xs ++ ys) (λ m j. elim (Contains-append_cases xs ys m j) [
-    | inl i ↦ from_all (holds u) xs m h i
-    | inr i ↦ from_all (holds u) ys m k i
-  ])
+  holds_both xs ys left_matched right_matched = all_from (holds u) (xs ++ ys)
+      (λ m j. elim (Contains-append_cases xs ys m j) [
+        | inl in_left ↦ from_all (holds u) xs m left_matched in_left
+        | inr in_right ↦ from_all (holds u) ys m right_matched in_right
+      ])
 
   -- if the literals of each element hold, those of all elements hold together
   pub holds_all : {X : Type 0} (f : X → List Literal) (xs : List X) →
       ((x : X) → Contains xs x → matches (f x) u ≡ true) →
       matches (flat_map f xs) u ≡ true
-  holds_all f xs h = all_from (holds u) (flat_map f xs)
-      (λ m j. let r = Contains-flat_map_parts f xs m j in from_all (holds u) (f r.0) m (h r.0 r.1) r.2)
+  holds_all f xs each_holds = all_from (holds u) (flat_map f xs)
+      (λ m among. let from_element = Contains-flat_map_parts f xs m among in from_all (holds u)
+      (f from_element.0) m (each_holds from_element.0 from_element.1) from_element.2)
 
   -- if the literal that v has its number of s holds in u, v has the same number in u
   pub same_number : (s : Scenario) (v : ℕ) → holds u (number_known s v) ≡ true → number_of u v ≡ number_of s v
-  same_number s v h = omega (arith, holds-low u (number_known s v) h, holds-high u (number_known s v) h)
+  same_number s v is_true = omega (
+    arith,
+    holds-low u (number_known s v) is_true,
+    holds-high u
+        (number_known s v) is_true,
+  )
 
   -- if such literals on all variables of a list hold in u, each of these has the same number in u and s
   pub same_numbers : (s : Scenario) (vs : List ℕ) → matches (map (number_known s) vs) u ≡ true → (v : ℕ) →
       Contains vs v →
       number_of u v ≡ number_of s v
-  same_numbers s vs h v j = same_number s v
-      (from_all (holds u) (map (number_known s) vs) (number_known s v) h (Contains-map (number_known s) vs v j))
+  same_numbers s vs matched v among = same_number s v
+      (from_all (holds u) (map (number_known s) vs) (number_known s v) matched
+      (Contains-map (number_known s) vs v among))
 
   -- the literal that v has its number of u holds in u
   pub number_holds : (v : ℕ) → holds u (number_known u v) ≡ true
@@ -94,34 +104,49 @@ module _ (g : Graph) (few : process_count g ≤ 128) (literals cube : List Liter
   -- The cube matches each scenario in which the literals hold: the number of a variable is at least each low on it, so at least the
   -- greatest, and likewise at most the least high.
   pub cube_matches : matches literals s ≡ true → matches cube s ≡ true
-  cube_matches h = all_from (holds s) cube (λ l j.
+  cube_matches literals_match = all_from (holds s) cube (λ l in_this_cube.
       let v : ℕ = l.variable in
-      let r = range_of_literal g.faults cube l is.rising j in
+      let range = range_of_literal g.faults cube l is.rising in_this_cube in
       let low : kept_low literals v ≤ number_of s v = kept_low_below literals v (number_of s v)
-      (λ m i e. omega (arith, holds-low s m (from_all (holds s) literals m h i), ap (number_of s) e)) in
+      (λ m in_literals same_variable. omega (
+        arith,
+        holds-low s m
+            (from_all (holds s) literals m literals_match in_literals),
+        ap (number_of s) same_variable,
+      )) in
       let high : number_of s v ≤ kept_high g.faults literals v =
       kept_high_above literals v g.faults (number_of s v) (number_at_most g few s law v)
-      (λ m i e. omega (arith, holds-high s m (from_all (holds s) literals m h i), ap (number_of s) e)) in
-      holds-from s l (omega (arith, r.0, is.low v, low)) (omega (arith, r.1, is.high v, high)))
+      (λ m in_literals same_variable. omega (
+        arith,
+        holds-high s m
+            (from_all (holds s) literals m literals_match in_literals),
+        ap (number_of s) same_variable,
+      )) in
+      holds-from s l (omega (arith, range.0, is.low v, low)) (omega (arith, range.1, is.high v, high)))
 
   -- the literals hold in each scenario that their cube matches, as its range of a variable lies within each literal on it
   pub literals_hold : matches cube s ≡ true → matches literals s ≡ true
-  literals_hold h = all_from (holds s) literals (λ m j.
+  literals_hold cube_match = all_from (holds s) literals (λ m in_literals.
       let v : ℕ = m.variable in
       holds-from s m
-      (omega (arith, low_kept literals v m j refl, is.low v, low_in-le cube s v h))
+      (omega (arith, low_kept literals v m in_literals refl, is.low v, low_in-le cube s v cube_match))
       (omega (
         arith,
-        high_kept literals v g.faults m j refl,
+        high_kept literals v g.faults m in_literals refl,
         is.high v,
-        high_in-ge g.faults cube s v (number_at_most g few s law v) h,
+        high_in-ge g.faults cube s v (number_at_most g few s law v) cube_match,
       )))
 
 -- the literals of a cube lie within the whole ranges of their variables
 pub cube_within : (k : ℕ) (literals cube : List Literal) → IsCubeOf k literals cube → (l : Literal) → Contains cube l →
     l.high ≤ top k l.variable
-cube_within k literals cube is l j =
-    omega (arith, (range_of_literal k cube l is.rising j).1, is.high l.variable, high_kept_top literals l.variable k)
+cube_within k literals cube is l among =
+    omega (
+      arith,
+      (range_of_literal k cube l is.rising among).1,
+      is.high l.variable,
+      high_kept_top literals l.variable k,
+    )
 
 -- cubes with the same lows of all variables have the same least scenario
 pub same_lows : (g : Graph) (a b : List Literal) → ((v : ℕ) → low_in a v ≡ low_in b v) → lows g a ≡ lows g b
@@ -167,45 +192,46 @@ module _ (k : ℕ) (literals : List Literal) where
   -- a literal of the cube is what is kept of a variable of the literals
   from_cube : (l : Literal) → Contains cube_of l → (is_spoken l.variable ≡ true) × (kept l.variable ≡ l)
   unfolding cube_of kept spoken_below
-  from_cube l j =
-      let r = Contains-map_parts kept spoken_below l j in
-      let v : r.0 ≡ l.variable = ap (λ (m : Literal). m.variable) r.2 in (
+  from_cube l among =
+      let made_from = Contains-map_parts kept spoken_below l among in
+      let v : made_from.0 ≡ l.variable = ap (λ (m : Literal). m.variable) made_from.2 in (
         subst (λ w. is_spoken w ≡ true) v (Contains-filter_parts is_spoken
-            (numbers_below (suc (greatest (map (λ (m : Literal). m.variable) literals)))) r.0 r.1).1,
-        subst (λ w. kept w ≡ l) v r.2,
+            (numbers_below (suc (greatest (map (λ (m : Literal). m.variable) literals)))) made_from.0 made_from.1).1,
+        subst (λ w. kept w ≡ l) v made_from.2,
       )
 
   -- for each variable that a literal of the list is on, the cube has the literal that is kept of it
   in_cube : (v : ℕ) → is_spoken v ≡ true → Contains cube_of (kept v)
   unfolding cube_of spoken_below is_spoken
-  in_cube v e =
-      let r = list_any_parts (λ (m : Literal). m.variable == v) literals e in
-      let same : r.0.variable ≡ v = eqb-true r.0.variable v r.2 in
-      let most = greatest_above (map (λ (m : Literal). m.variable) literals) r.0.variable
-      (Contains-map (λ (m : Literal). m.variable) literals r.0 r.1) in
+  in_cube v spoken =
+      let speaker = list_any_parts (λ (m : Literal). m.variable == v) literals spoken in
+      let same : speaker.0.variable ≡ v = eqb-true speaker.0.variable v speaker.2 in
+      let most = greatest_above (map (λ (m : Literal). m.variable) literals) speaker.0.variable
+      (Contains-map (λ (m : Literal). m.variable) literals speaker.0 speaker.1) in
       Contains-map kept spoken_below v
-      (Contains-filter is_spoken (numbers_below (suc (greatest (map (λ (m : Literal). m.variable) literals)))) v e
+      (Contains-filter is_spoken (numbers_below (suc (greatest (map (λ (m : Literal). m.variable) literals)))) v spoken
       (Contains-numbers (suc (greatest (map (λ (m : Literal). m.variable) literals))) v (omega (arith, same, most))))
 
   -- the cube has no literal on a variable that no literal of the list is on
   not_in_cube : (v : ℕ) → is_spoken v ≡ false → (l : Literal) → Contains cube_of l → l.variable ≢ v
-  not_in_cube v e l j same = both_ways (is_spoken v) e (subst (λ w. is_spoken w ≡ true) same (from_cube l j).0)
+  not_in_cube v is_false l among same = both_ways (is_spoken v) is_false
+      (subst (λ w. is_spoken w ≡ true) same (from_cube l among).0)
 
   -- if `is_spoken` is false for a variable, no literal of the list is on it
   unspoken : (v : ℕ) → is_spoken v ≡ false → (m : Literal) → Contains literals m → m.variable ≡ v → ⊥
   unfolding is_spoken
-  unspoken v e m j same = both_ways (list_any (λ (m : Literal). m.variable == v) literals) e
-      (list_any_true (λ (m : Literal). m.variable == v) literals m j (eq-eqb m.variable v same))
+  unspoken v is_false m among same = both_ways (list_any (λ (m : Literal). m.variable == v) literals) is_false
+      (list_any_true (λ (m : Literal). m.variable == v) literals m among (eq-eqb m.variable v same))
 
   -- the cube's low of a variable is the greatest low of the literals on it, and 0 if there is none
   low_is : (v : ℕ) → low_in cube_of v ≡ kept_low literals v
   unfolding kept
   low_is v = elim (cases_Bool (is_spoken v)) [
-    | inl e ↦ (range_of_literal k cube_of (kept v) rising (in_cube v e)).0
-    | inr e ↦ omega (
+    | inl is_true ↦ (range_of_literal k cube_of (kept v) rising (in_cube v is_true)).0
+    | inr is_false ↦ omega (
       arith,
-      low_in-none cube_of v (not_in_cube v e),
-      kept_low_below literals v 0 (λ m j same. absurd (unspoken v e m j same)),
+      low_in-none cube_of v (not_in_cube v is_false),
+      kept_low_below literals v 0 (λ m j same. absurd (unspoken v is_false m j same)),
     )
   ]
 
@@ -213,12 +239,12 @@ module _ (k : ℕ) (literals : List Literal) where
   high_is : (v : ℕ) → high_in k cube_of v ≡ kept_high k literals v
   unfolding kept
   high_is v = elim (cases_Bool (is_spoken v)) [
-    | inl e ↦ (range_of_literal k cube_of (kept v) rising (in_cube v e)).1
-    | inr e ↦ omega (
+    | inl is_true ↦ (range_of_literal k cube_of (kept v) rising (in_cube v is_true)).1
+    | inr is_false ↦ omega (
       arith,
-      high_in-none k cube_of v (not_in_cube v e),
+      high_in-none k cube_of v (not_in_cube v is_false),
       high_kept_top literals v k,
-      kept_high_above literals v k (top k v) (omega arith) (λ m j same. absurd (unspoken v e m j same)),
+      kept_high_above literals v k (top k v) (omega arith) (λ m j same. absurd (unspoken v is_false m j same)),
     )
   ]
 
@@ -227,9 +253,9 @@ module _ (k : ℕ) (literals : List Literal) where
   unfolding is_spoken
   cube_there = record {
     rising = rising;
-    spoken = λ l j.
-        let r = list_any_parts (λ (m : Literal). m.variable == l.variable) literals (from_cube l j).0 in
-        (r.0, r.1, eqb-true r.0.variable l.variable r.2);
+    spoken = λ l among.
+        let speaker = list_any_parts (λ (m : Literal). m.variable == l.variable) literals (from_cube l among).0 in
+        (speaker.0, speaker.1, eqb-true speaker.0.variable l.variable speaker.2);
     low = low_is;
     high = high_is;
   }

@@ -14,6 +14,6 @@ use Rattle.cpg_run.proofs.Rising.{AreLow, last_le}
 pub early_from_low : (g : Graph) (order : List ℕ) (frozen : List (Option ℕ)) → IsWithinLimits g →
     IsTopological g order → length frozen ≡ item_count g → AreLow 0 g order frozen → AreEarly frozen
 early_from_low g order frozen within topological count low x time e = elim (cases_lt x (item_count g)) [
-  | inl l ↦ omega (arith, low.low x time l e, moment_before_last g order topological x l, last_le g within)
-  | inr l ↦ absurd (none-some time (sym (get_or_past frozen x None (omega arith)) ∙ e))
+  | inl less ↦ omega (arith, low.low x time less e, moment_before_last g order topological x less, last_le g within)
+  | inr at_least ↦ absurd (none-some time (sym (get_or_past frozen x None (omega arith)) ∙ e))
 ]

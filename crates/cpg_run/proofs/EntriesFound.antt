@@ -21,12 +21,13 @@ use Rattle.cpg_run.proofs.SameInRows.{only_one}
 -- in a list `xs` without repeats, the element at place i is not among those before it
 pub not_before_place : {X : Type 0} (xs : List X) (i : ℕ) (d : X) → AllPairs (λ x y. x ≢ y) xs → i < length xs →
     Contains (take i xs) (get_or xs i d) → ⊥
-not_before_place {X} xs i d apart l j =
+not_before_place {X} xs i d apart inside among_before =
     let x : X = get_or xs i d in
     let long = length-take i xs in
-    let below : j.0 < i = omega (arith, j.1, long) in
-    apart j.0 i d below l
-    (get_or_default xs j.0 d x (omega (arith, below, l)) ∙ sym (get_or-take i xs j.0 x below) ∙ j.2)
+    let below : among_before.0 < i = omega (arith, among_before.1, long) in
+    apart among_before.0 i d below inside
+    (get_or_default xs among_before.0 d x (omega (arith, below, inside)) ∙ sym (get_or-take i xs among_before.0 x below)
+    ∙ among_before.2)
 
 -- given: the rows and an item x, whose entries are found scenario by scenario
 module _ (g : Graph) (order : List ℕ) (frozen : List (Option ℕ)) (rows : List (List Column)) (x : ℕ) where
@@ -62,8 +63,8 @@ module _ (g : Graph) (order : List ℕ) (frozen : List (Option ℕ)) (rows : Lis
       among = λ e j. Contains-append_left done (s ∷ []) (lows g e.cube) (so_far.among e j);
       apart = so_far.apart;
       all = λ u e j is least. elim (Contains-append_cases done (s ∷ []) u j) [
-        | inl i ↦ so_far.all u e i is least
-        | inr i ↦ let same = only_one s u i in
+        | inl in_left ↦ so_far.all u e in_left is least
+        | inr in_right ↦ let same = only_one s u in_right in
             absurd (never e (subst (λ v. IsEntryIn g order frozen rows x v e) (sym same) is) (least ∙ sym same))
       ];
     }
@@ -85,14 +86,15 @@ module _ (g : Graph) (order : List ℕ) (frozen : List (Option ℕ)) (rows : Lis
     taken e is least new = record {
       -- an entry was there before, or is e
       each = λ d j. elim (Contains-append_cases entries (e ∷ []) d j) [
-        | inl i ↦ so_far.each d i
-        | inr i ↦ subst (λ d. IsEntryIn g order frozen rows x (lows g d.cube) d) (only_one e d i)
+        | inl in_left ↦ so_far.each d in_left
+        | inr in_right ↦ subst (λ d. IsEntryIn g order frozen rows x (lows g d.cube) d) (only_one e d in_right)
             (subst (λ u. IsEntryIn g order frozen rows x u e) (sym least) is)
       ];
       among = λ d j. elim (Contains-append_cases entries (e ∷ []) d j) [
-        | inl i ↦ Contains-append_left done (s ∷ []) (lows g d.cube) (so_far.among d i)
-        | inr i ↦
-            subst (λ d. Contains (done ++ s ∷ []) (lows g d.cube)) (only_one e d i) (subst (Contains (done ++ s ∷ []))
+        | inl in_left ↦ Contains-append_left done (s ∷ []) (lows g d.cube) (so_far.among d in_left)
+        | inr in_right ↦
+            subst (λ d. Contains (done ++ s ∷ []) (lows g d.cube)) (only_one e d in_right)
+            (subst (Contains (done ++ s ∷ []))
             (sym least) (Contains-append_right done (s ∷ []) s (Contains-first s [])))
       ];
       -- an entry with the least scenario s would be among those done, but s is new
@@ -103,13 +105,14 @@ module _ (g : Graph) (order : List ℕ) (frozen : List (Option ℕ)) (rows : Lis
           (same ∙ ap (λ (c : Column). lows g c.cube) (sym (only_one e f j)) ∙ least) (so_far.among d i)));
       -- a scenario done before has its entry among those so far, and s has e
       all = λ u d j entry lowest. elim (Contains-append_cases done (s ∷ []) u j) [
-        | inl i ↦
-            let r = Contains-map_parts (λ (c : Column). lows g c.cube) entries u (so_far.all u d i entry lowest) in
-            subst (Contains (map (λ (c : Column). lows g c.cube) (entries ++ e ∷ []))) r.2
-            (Contains-map (λ (c : Column). lows g c.cube) (entries ++ e ∷ []) r.0
-            (Contains-append_left entries (e ∷ []) r.0 r.1))
-        | inr i ↦
-            subst (Contains (map (λ (c : Column). lows g c.cube) (entries ++ e ∷ []))) (least ∙ only_one s u i)
+        | inl in_left ↦
+            let of_entry = Contains-map_parts (λ (c : Column). lows g c.cube) entries u
+            (so_far.all u d in_left entry lowest) in
+            subst (Contains (map (λ (c : Column). lows g c.cube) (entries ++ e ∷ []))) of_entry.2
+            (Contains-map (λ (c : Column). lows g c.cube) (entries ++ e ∷ []) of_entry.0
+            (Contains-append_left entries (e ∷ []) of_entry.0 of_entry.1))
+        | inr in_right ↦
+            subst (Contains (map (λ (c : Column). lows g c.cube) (entries ++ e ∷ []))) (least ∙ only_one s u in_right)
             (Contains-map (λ (c : Column). lows g c.cube) (entries ++ e ∷ []) e
             (Contains-append_right entries (e ∷ []) e (Contains-first e [])))
       ];

@@ -45,9 +45,10 @@ module _ {X : Type 0} (R : X → X → Type 0) (p : X → Bool) where
   two_at_most xs [] from pairs never = omega arith
   two_at_most xs (y ∷ []) from pairs never = omega arith
   two_at_most xs (y ∷ z ∷ ys) from pairs never =
-      let a = from y (Contains-first y (z ∷ ys)) in
-      let b = from z (Contains-rest y (z ∷ ys) z (Contains-first z ys)) in
-      absurd (never y z a.0 b.0 a.1 b.1 (pairs 0 1 y (omega arith) (omega arith)))
+      let first_parts = from y (Contains-first y (z ∷ ys)) in
+      let second_parts = from z (Contains-rest y (z ∷ ys) z (Contains-first z ys)) in
+      absurd (never y z first_parts.0 second_parts.0 first_parts.1 second_parts.1
+      (pairs 0 1 y (omega arith) (omega arith)))
 
   -- if any two elements of a list are related, but no two that pass are, at most one passes
   pub one_passes : (xs : List X) → AllPairs R xs →
@@ -58,10 +59,13 @@ module _ {X : Type 0} (R : X → X → Type 0) (p : X → Bool) where
 
 -- a list of at most one element that contains x has x alone
 pub the_one : {X : Type 0} (xs : List X) (x : X) → length xs ≤ 1 → Contains xs x → xs ≡ x ∷ []
-the_one [] x l j = absurd (Contains-nil x j)
-the_one (y ∷ []) x l j =
-    elim (Contains-cases y [] x j) [ inl e ↦ ap (λ z. z ∷ []) e | inr none ↦ absurd (Contains-nil x none) ]
-the_one (y ∷ z ∷ xs) x l j = absurd (omega arith)
+the_one [] x at_most among = absurd (Contains-nil x among)
+the_one (y ∷ []) x at_most among =
+    elim (Contains-cases y [] x among) [
+      | inl is_head ↦ ap (λ z. z ∷ []) is_head
+      | inr none ↦ absurd (Contains-nil x none)
+    ]
+the_one (y ∷ z ∷ xs) x at_most among = absurd (omega arith)
 
 -- ---- the cube of what is carried in a scenario
 
@@ -69,7 +73,7 @@ the_one (y ∷ z ∷ xs) x l j = absurd (omega arith)
 -- `timed`: the graph is admitted, and `frozen` has its frozen times. `earlier`: the rows of the items before x have
 -- the times of the runs.
 module _ (g : Graph) (urgency order : List ℕ) (frozen : List (Option ℕ)) (rows : List (List Column)) (x : ℕ)
-    (timed : IsTimed g urgency order frozen) (l : x < item_count g)
+    (timed : IsTimed g urgency order frozen) (x_below : x < item_count g)
     (earlier : AreRowsFor g order frozen x rows) where
   -- the graph has at most 128 processes
   few : process_count g ≤ 128
@@ -78,7 +82,7 @@ module _ (g : Graph) (urgency order : List ℕ) (frozen : List (Option ℕ)) (ro
   -- the literals that are carried beside x in a scenario hold in it
   holds_here : (s : Scenario) → item_active g s.values (item_at g x) ≡ true →
       matches (carried g order rows s x) s ≡ true
-  holds_here s on = carried_holds g order rows s timed.admitted.topological few x l on
+  holds_here s on = carried_holds g order rows s timed.admitted.topological few x x_below on
 
   -- given: a scenario in which the item is active, and a cube of what is carried there
   -- `on`: the item is active in s. `is`: the cube has the ranges of the literals that are carried in s, and no
@@ -89,9 +93,11 @@ module _ (g : Graph) (urgency order : List ℕ) (frozen : List (Option ℕ)) (ro
     pub cube_known : IsCube g cube
     cube_known = record {
       rising = is.rising;
-      known = every (λ (m : Literal). IsVariable g m.variable) cube (λ m j. let r = is.spoken m j in
-          subst (IsVariable g) r.2
-          (carried_known g order rows s timed.admitted.topological few x l earlier.cubes on r.0 r.1));
+      known = every (λ (m : Literal). IsVariable g m.variable) cube
+          (λ m in_cube. let carried_one = is.spoken m in_cube in
+          subst (IsVariable g) carried_one.2
+          (carried_known g order rows s timed.admitted.topological few x x_below earlier.cubes on carried_one.0
+          carried_one.1));
     }
 
     -- the cube matches its own scenario
@@ -104,13 +110,13 @@ module _ (g : Graph) (urgency order : List ℕ) (frozen : List (Option ℕ)) (ro
 
     -- in each scenario that the cube matches, x is active, has the same time and carries the same
     pub cube_same : (u : Scenario) → IsScenario g u → matches cube u ≡ true → IsSameIn g order frozen rows x s u
-    cube_same u lu h = carried_decides g urgency order frozen rows s u x timed l earlier law lu on
-        (literals_hold g few (carried g order rows s x) cube is u lu h)
+    cube_same u lu matched = carried_decides g urgency order frozen rows s u x timed x_below earlier law lu on
+        (literals_hold g few (carried g order rows s x) cube is u lu matched)
 
     -- in each scenario that the cube matches, it is a cube of what is carried there
     pub cube_there_too : (u : Scenario) → IsScenario g u → matches cube u ≡ true →
         IsCubeOf g.faults (carried g order rows u x) cube
-    cube_there_too u lu h = subst (λ ls. IsCubeOf g.faults ls cube) (sym (cube_same u lu h).carried) is
+    cube_there_too u lu matched = subst (λ ls. IsCubeOf g.faults ls cube) (sym (cube_same u lu matched).carried) is
 
     -- with the time of x in s, the cube is an entry of its own least scenario
     pub entry_of_least : (time : ℕ) → ((t : Times) → IsRun g order frozen s t → get_or t.times x None ≡ Some time) →
@@ -119,11 +125,11 @@ module _ (g : Graph) (urgency order : List ℕ) (frozen : List (Option ℕ)) (ro
         let lawful = lows-lawful g few cube cube_known cube_met in
         let match = lows-match g few cube cube_known cube_met in
         let same = cube_same (lows g cube) lawful match in
-        let r = a_run g order frozen s timed.admitted.topological in
+        let least_run = a_run g order frozen s timed.admitted.topological in
         record {
           lawful = lawful;
           active = same.active;
-          time = λ t run. sym (same.time r.0 t r.1 run) ∙ here r.0 r.1;
+          time = λ t run. sym (same.time least_run.0 t least_run.1 run) ∙ here least_run.0 least_run.1;
           cube = cube_there_too (lows g cube) lawful match;
         }
 
@@ -132,32 +138,41 @@ module _ (g : Graph) (urgency order : List ℕ) (frozen : List (Option ℕ)) (ro
   -- given: the entries of the item x
   module _ (entries : List Column) (are : AreEntriesOf g order frozen rows x entries) where
     -- given: one of the entries, e
-    module _ (e : Column) (j : Contains entries e) where
+    module _ (e : Column) (in_entries : Contains entries e) where
       -- the cube of an entry is one of the graph
       entry_known : IsCube g e.cube
-      entry_known = let a = are.each e j in cube_known (lows g e.cube) a.lawful a.active e.cube a.cube
+      entry_known =
+          let its_entry = are.each e in_entries in
+          cube_known (lows g e.cube) its_entry.lawful its_entry.active e.cube its_entry.cube
 
       -- the cube of an entry matches its least scenario
       entry_own : matches e.cube (lows g e.cube) ≡ true
-      entry_own = let a = are.each e j in cube_own (lows g e.cube) a.lawful a.active e.cube a.cube
+      entry_own =
+          let its_entry = are.each e in_entries in
+          cube_own (lows g e.cube) its_entry.lawful its_entry.active e.cube its_entry.cube
 
       -- in each scenario that an entry matches, x is active, and has the same time and carries the same as in the entry's least one
       entry_same : (u : Scenario) → IsScenario g u → matches e.cube u ≡ true →
           IsSameIn g order frozen rows x (lows g e.cube) u
-      entry_same = let a = are.each e j in cube_same (lows g e.cube) a.lawful a.active e.cube a.cube
+      entry_same =
+          let its_entry = are.each e in_entries in
+          cube_same (lows g e.cube) its_entry.lawful its_entry.active e.cube its_entry.cube
 
       -- an entry that matches has the time of the run
       pub entry_time : (u : Scenario) (w : Times) → IsScenario g u → IsRun g order frozen u w →
           matches e.cube u ≡ true →
           get_or w.times x None ≡ Some e.time
-      entry_time u w lu other h =
-          let r = a_run g order frozen (lows g e.cube) timed.admitted.topological in
-          sym ((entry_same u lu h).time r.0 w r.1 other) ∙ (are.each e j).time r.0 r.1
+      entry_time u w lawful_u other matched =
+          let least_run = a_run g order frozen (lows g e.cube) timed.admitted.topological in
+          sym ((entry_same u lawful_u matched).time least_run.0 w least_run.1 other) ∙
+          (are.each e in_entries).time least_run.0 least_run.1
 
       -- the cube of an entry that matches is that of what is carried in the scenario
       pub entry_cube : (u : Scenario) → IsScenario g u → matches e.cube u ≡ true →
           IsCubeOf g.faults (carried g order rows u x) e.cube
-      entry_cube = let a = are.each e j in cube_there_too (lows g e.cube) a.lawful a.active e.cube a.cube
+      entry_cube =
+          let its_entry = are.each e in_entries in
+          cube_there_too (lows g e.cube) its_entry.lawful its_entry.active e.cube its_entry.cube
 
     -- at most one entry matches a scenario: two would be cubes of what is carried there, so have the same least scenario
     matches_once : (u : Scenario) → IsScenario g u → length (filter (λ (c : Column). matches c.cube u) entries) ≤ 1
@@ -171,50 +186,52 @@ module _ (g : Graph) (urgency order : List ℕ) (frozen : List (Option ℕ)) (ro
     a_match : (u : Scenario) (w : Times) → IsScenario g u → IsRun g order frozen u w →
         item_active g u.values (item_at g x) ≡ true →
         (e : Column) × Contains entries e × (matches e.cube u ≡ true)
-    a_match u w lu other on =
+    a_match u w lawful_u other on =
         let cube : List Literal = cube_of g.faults (carried g order rows u x) in
         let is = cube_there g.faults (carried g order rows u x) in
         let least : Scenario = lows g cube in
-        let known = cube_known u lu on cube is in
-        let met = cube_met u lu on cube is in
+        let known = cube_known u lawful_u on cube is in
+        let met = cube_met u lawful_u on cube is in
         let same =
-        cube_same u lu on cube is least (lows-lawful g few cube known met) (lows-match g few cube known met) in
-        let entry = entry_of_least u lu on cube is (time_in w x) (λ t run. one_time t run) in
+        cube_same u lawful_u on cube is least (lows-lawful g few cube known met) (lows-match g few cube known met) in
+        let entry = entry_of_least u lawful_u on cube is (time_in w x) (λ t run. one_time t run) in
         -- the entry whose least scenario this is
-        let r = Contains-map_parts (λ (d : Column). lows g d.cube) entries least
+        let of_entry = Contains-map_parts (λ (d : Column). lows g d.cube) entries least
         (are.all least (record { time = time_in w x; cube = cube }) entry refl) in
-        let there = subst (λ v. IsCubeOf g.faults (carried g order rows v x) r.0.cube) r.2 (are.each r.0 r.1).cube in (
-          r.0,
-          r.1,
-          cube_matches g few (carried g order rows u x) r.0.cube
-              (subst (λ ls. IsCubeOf g.faults ls r.0.cube) same.carried there) u lu (holds_here u on),
+        let there = subst (λ v. IsCubeOf g.faults (carried g order rows v x) of_entry.0.cube) of_entry.2
+        (are.each of_entry.0 of_entry.1).cube in (
+          of_entry.0,
+          of_entry.1,
+          cube_matches g few (carried g order rows u x) of_entry.0.cube
+              (subst (λ ls. IsCubeOf g.faults ls of_entry.0.cube) same.carried there) u lawful_u (holds_here u on),
         )
       where
         -- the item has the time of the run w in each run of u, as there is just one run
         one_time : (t : Times) → IsRun g order frozen u t → get_or t.times x None ≡ Some (time_in w x)
         one_time t run = subst (λ v. get_or v.times x None ≡ Some (time_in w x))
             (run_unique g order timed.admitted.topological frozen u w t other run)
-            (has_time g order frozen u w other x l on)
+            (has_time g order frozen u w other x x_below on)
 
     -- entries have the times of the runs: of an active item one matches, no other does, and it has the item's time; of an inactive
     -- item none matches
     pub entries_times : HaveTimesOf g order frozen x entries
-    entries_times u w lu other = elim (cases_Bool (item_active g u.values (item_at g x))) [
+    entries_times u w lawful_u other = elim (cases_Bool (item_active g u.values (item_at g x))) [
       | inl on ↦
-          let m = a_match u w lu other on in
-          the_one (times_in entries u) m.0.time (omega (
+          let matched = a_match u w lawful_u other on in
+          the_one (times_in entries u) matched.0.time (omega (
             arith,
             length-map (filter (λ (c : Column). matches c.cube u) entries) (λ (c : Column). c.time),
-            matches_once u lu,
+            matches_once u lawful_u,
           ))
-          (Contains-map (λ (c : Column). c.time) (filter (λ (c : Column). matches c.cube u) entries) m.0
-          (Contains-filter (λ (c : Column). matches c.cube u) entries m.0 m.2 m.1))
-          ∙ sym (ap option_to_list (entry_time m.0 m.1 u w lu other m.2))
+          (Contains-map (λ (c : Column). c.time) (filter (λ (c : Column). matches c.cube u) entries) matched.0
+          (Contains-filter (λ (c : Column). matches c.cube u) entries matched.0 matched.2 matched.1))
+          ∙ sym (ap option_to_list (entry_time matched.0 matched.1 u w lawful_u other matched.2))
       | inr off ↦
           ap (map (λ (c : Column). c.time)) (filter_none (λ (c : Column). matches c.cube u) entries
-          (λ e j. false_from_ne_true (matches e.cube u)
-          (λ h. both_ways (item_active g u.values (item_at g x)) off (entry_same e j u lu h).active)))
-          ∙ sym (ap option_to_list (time_is g order frozen u w other x l ∙ cond-false _ _ _ off))
+          (λ e in_entries. false_from_ne_true (matches e.cube u)
+          (λ matching. both_ways (item_active g u.values (item_at g x)) off
+          (entry_same e in_entries u lawful_u matching).active)))
+          ∙ sym (ap option_to_list (time_is g order frozen u w other x x_below ∙ cond-false _ _ _ off))
     ]
 
     -- the entries can be merged: their cubes are of the graph, within the tops, each matches some scenario, and at most one matches

@@ -23,28 +23,29 @@ module _ (g : Graph) (urgency order : List ℕ) (frozen : List (Option ℕ)) (ro
   carries : (x : ℕ) → x < item_count g → (s : Scenario) (c : Column) → IsScenario g s → Contains (row_at rows x) c →
       matches c.cube s ≡ true →
       ContainsKept g.faults c.cube (carried g order rows s x)
-  carries x l s c law j h =
-      let row = found.each x l in
+  carries x below s c law in_row matched =
+      let row = found.each x below in
       let there = Contains-map (λ (c : Column). c.time) (filter (λ (c : Column). matches c.cube s) (row_at rows x)) c
-      (Contains-filter (λ (c : Column). matches c.cube s) (row_at rows x) c h j) in
-      let r = Contains-map_parts (λ (c : Column). c.time) (filter (λ (c : Column). matches c.cube s) row.entries) c.time
+      (Contains-filter (λ (c : Column). matches c.cube s) (row_at rows x) c matched in_row) in
+      let of_entry = Contains-map_parts (λ (c : Column). c.time)
+      (filter (λ (c : Column). matches c.cube s) row.entries) c.time
       (subst (λ ns. Contains ns c.time) (row.merge.times s law) there) in
-      let q = Contains-filter_parts (λ (c : Column). matches c.cube s) row.entries r.0 r.1 in
-      let is = entry_cube g urgency order frozen rows x timed l (all_before g urgency order frozen timed rows found
-      (place order (producer g x))) row.entries row.are r.0 q.0 s law q.1 in
-      let wide = row.merge.wider s r.0 c law q.0 j q.1 h in
+      let entry_parts = Contains-filter_parts (λ (c : Column). matches c.cube s) row.entries of_entry.0 of_entry.1 in
+      let is = entry_cube g urgency order frozen rows x timed below (all_before g urgency order frozen timed rows found
+      (place order (producer g x))) row.entries row.are of_entry.0 entry_parts.0 s law entry_parts.1 in
+      let wide = row.merge.wider s of_entry.0 c law entry_parts.0 in_row entry_parts.1 matched in
       record { low = λ v. omega (arith, (wide v).0, is.low v); high = λ v. omega (arith, (wide v).1, is.high v) }
 
   -- the row of each item has the times of the runs, and no column that says more than what is carried
   carrying_row : (x : ℕ) → x < item_count g → IsCarryingRow g urgency order frozen rows x
-  carrying_row x l = record {
-    times = rows_times g urgency order frozen timed rows found x l;
-    carries = carries x l;
-    cubes = (found.each x l).merge.cubes;
-    within = (found.each x l).merge.within;
-    not_whole = (found.each x l).merge.not_whole;
-    met = (found.each x l).merge.met;
-    ordered = (found.each x l).merge.ordered;
+  carrying_row x below = record {
+    times = rows_times g urgency order frozen timed rows found x below;
+    carries = carries x below;
+    cubes = (found.each x below).merge.cubes;
+    within = (found.each x below).merge.within;
+    not_whole = (found.each x below).merge.not_whole;
+    met = (found.each x below).merge.met;
+    ordered = (found.each x below).merge.ordered;
   }
 
   -- the rows carry no more than they may

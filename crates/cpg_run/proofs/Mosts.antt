@@ -33,8 +33,8 @@ module _ (f : ℕ → ℕ) where
       subst (λ n. IsMost (λ c. (c < condition_count g) × (decides g values p c ≡ true)) f n) (sym is)
       (most_same (Contains (deciding_along g order values p))
       (λ c. (c < condition_count g) × (decides g values p c ≡ true)) _
-      (λ c k. let r = Contains-filter_parts (decides g values p) (conditions_along g order) c k in
-      ((from_along g order c r.0).0, r.1))
+      (λ c k. let parts = Contains-filter_parts (decides g values p) (conditions_along g order) c k in
+      ((from_along g order c parts.0).0, parts.1))
       (λ c k. Contains-filter (decides g values p) (conditions_along g order) c k.1
       (Contains-along g order topological c k.0))
       (most_of_list (deciding_along g order values p)))

@@ -24,12 +24,12 @@ use Rattle.cpg_run.proofs.Steps.{knows_active}
 
 -- given: all that is known before a place, and when the node there has heard what decides its process
 -- `at`: process p is at place i. `on`, `long`, `far`: its node is one of the graph, and the two lists have an
--- entry for each node. `a`: times, ends, ready times and free slots are those of the run before place i. `heard`: the
--- greatest time at which the node hears a condition that decides p, by what is known.
+-- entry for each node. `so_far`: times, ends, ready times and free slots are those of the run before place i. `heard`:
+-- the greatest time at which the node hears a condition that decides p, by what is known.
 module _ (g : Graph) (order : List ℕ) (topological : IsTopological g order) (frozen : List (Option ℕ)) (s : Scenario)
     (t : Times) (run : IsRun g order frozen s t)
-    (i p : ℕ) (l : p < process_count g) (at : place order p ≡ i) (on : node_of g p < length g.nodes)
-    (known : Times) (readies frees : List ℕ) (a : IsAt g order s t i known readies frees)
+    (i p : ℕ) (p_below : p < process_count g) (at : place order p ≡ i) (on : node_of g p < length g.nodes)
+    (known : Times) (readies frees : List ℕ) (so_far : IsAt g order s t i known readies frees)
     (long : length readies ≡ length g.nodes) (far : length frees ≡ length g.nodes)
     (heard : ℕ) (is_heard : IsMost (λ c. (c < condition_count g) × (decides g s.values p c ≡ true))
     (heard_there g known (node_of g p)) heard) where
@@ -40,28 +40,30 @@ module _ (g : Graph) (order : List ℕ) (topological : IsTopological g order) (f
   -- `heard` is also the greatest such time in the run
   heard_in_run : IsMost (λ c. (c < condition_count g) × (decides g s.values p c ≡ true))
       (heard_there g t (node_of g p)) heard
-  heard_in_run = decided_in_run g order t i known a.knows topological s p l at heard is_heard
+  heard_in_run = decided_in_run g order t i known so_far.knows topological s p p_below at heard is_heard
 
   -- if v is when p's node is ready at the next place, the list with v for it says when each node is; the others stay
   readies_next : (v : ℕ) → IsReady g order s t (i + 1) (node_of g p) v → (n : ℕ) → n < length g.nodes →
       IsReady g order s t (i + 1) n (get_or (set readies (node_of g p) v) n 0)
-  readies_next v ready n k = elim (cases_eq n (node_of g p)) [
-    | inl e ↦ subst (λ z. IsReady g order s t (i + 1) z (get_or (set readies (node_of g p) v) z 0)) (sym e)
+  readies_next v ready n below = elim (cases_eq n (node_of g p)) [
+    | inl equal ↦ subst (λ z. IsReady g order s t (i + 1) z (get_or (set readies (node_of g p) v) z 0)) (sym equal)
         (subst (IsReady g order s t (i + 1) (node_of g p))
         (sym (get_or-set_same readies (node_of g p) v 0 (omega arith))) ready)
     | inr other ↦ subst (IsReady g order s t (i + 1) n) (sym (get_or-set_other readies (node_of g p) n v 0 other))
-        (ready_other g order topological frozen s t run i p l at n (get_or readies n 0) other (a.nodes_ready n k))
+        (ready_other g order topological frozen s t run i p p_below at n (get_or readies n 0) other
+        (so_far.nodes_ready n below))
   ]
 
   -- after an inactive process all holds before the next place, with its node ready once it has heard what decides it
   pub at_idle : (v : ℕ) → active g s.values p ≡ false → v ≡ max (get_or readies (node_of g p) 0) heard →
       IsAt g order s t (i + 1) known (set readies (node_of g p) v) frees
   at_idle v idle is = record {
-    knows = knows_idle g order topological frozen s t run i p l at known idle a.knows;
-    nodes_ready = readies_next v (ready_idle g order topological frozen s t run i p l at
-        (get_or readies (node_of g p) 0) heard v idle is (a.nodes_ready (node_of g p) on) heard_in_run);
+    knows = knows_idle g order topological frozen s t run i p p_below at known idle so_far.knows;
+    nodes_ready = readies_next v (ready_idle g order topological frozen s t run i p p_below at
+        (get_or readies (node_of g p) 0) heard v idle is (so_far.nodes_ready (node_of g p) on) heard_in_run);
     slots_free =
-        λ n k. free_idle g order topological frozen s t run i p l at n (get_or frees n 0) idle (a.slots_free n k);
+        λ n k. free_idle g order topological frozen s t run i p p_below at n (get_or frees n 0) idle
+        (so_far.slots_free n k);
   }
 
   -- given: a start of the process that is found from what holds before the place
@@ -75,15 +77,16 @@ module _ (g : Graph) (order : List ℕ) (topological : IsTopological g order) (f
     pub start_right : start ≡ time_in t p
     start_right = found ∙ ap (λ r.
         max (max (max r (process_at g p).release) (greatest (input_bounds g s known p))) (frozen_in frozen p)) ready_at
-        ∙ start_is g order t i known a.knows topological s p l at frozen run acts (get_or readies (node_of g p) 0) heard
-        (a.nodes_ready (node_of g p) on) is_heard
+        ∙ start_is g order t i known so_far.knows topological s p p_below at frozen run acts
+        (get_or readies (node_of g p) 0) heard
+        (so_far.nodes_ready (node_of g p) on) is_heard
 
     -- given: the end of p, which is its start and its duration with its fault count
     module _ (end : ℕ) (ends : end ≡ start + duration g p (fault_of s p)) where
       -- the end that is found is the end of the process in the run
       pub end_right : end ≡ end_in t p
       end_right = ends ∙ ap (λ n. n + duration g p (fault_of s p)) start_right
-          ∙ sym (end_active g order frozen s t run p l acts)
+          ∙ sym (end_active g order frozen s t run p p_below acts)
 
       -- given: what is known once the start and the end are set
       -- `times_long`, `ends_long`: the lists have an entry for each item and each process. `started`, `ended`:
@@ -97,13 +100,13 @@ module _ (g : Graph) (order : List ℕ) (topological : IsTopological g order) (f
         can_send free is = record {
           ends = ap (λ es. unwrap_or (get_or es p None) 0) ended
               ∙ ap (λ o. unwrap_or o 0) (get_or-set_same known.ends p (Some end) None (omega arith)) ∙ end_right;
-          none = λ x c. let q = in_queue g p x c in
+          none = λ x x_queued. let queued_x = in_queue g p x x_queued in
               ap (λ ts. get_or ts x None) started
-              ∙ get_or-set_other known.times p x (Some start) None (λ e. absurd (omega (arith, q.above)))
-              ∙ a.knows.later x q.within (omega (arith, ap (place order) q.by));
+              ∙ get_or-set_other known.times p x (Some start) None (λ e. absurd (omega (arith, queued_x.above)))
+              ∙ so_far.knows.later x queued_x.within (omega (arith, ap (place order) queued_x.by));
           slots_free = subst (IsFree g order s t (place order p) (node_of g p)) (sym is)
               (subst (λ j. IsFree g order s t j (node_of g p) (get_or frees (node_of g p) 0)) (sym at)
-              (a.slots_free (node_of g p) on));
+              (so_far.slots_free (node_of g p) on));
         }
 
         -- once all that p sends has its times, all is known before the next place: its node is ready at the end of p, and the
@@ -112,19 +115,22 @@ module _ (g : Graph) (order : List ℕ) (topological : IsTopological g order) (f
             KeepsEnds begun new
             → IsAt g order s t (i + 1) new (set readies (node_of g p) end) (set frees (node_of g p) free)
         at_active new free sent keeps = record {
-          knows = knows_active g order topological frozen s t run i p l at acts known begun new start end free a.knows
+          knows = knows_active g order topological frozen s t run i p p_below at acts known begun new start end free
+              so_far.knows
               times_long ends_long started ended start_right end_right sent keeps;
-          nodes_ready = readies_next end (ready_active g order topological frozen s t run i p l at
+          nodes_ready = readies_next end (ready_active g order topological frozen s t run i p p_below at
               (get_or readies (node_of g p) 0) heard end acts end_right
-              (omega (arith, ready_at, found, ends)) (a.nodes_ready (node_of g p) on) heard_in_run);
+              (omega (arith, ready_at, found, ends)) (so_far.nodes_ready (node_of g p) on) heard_in_run);
           -- the slots of p's node are free after what p sent, and those of other nodes as before
           slots_free = λ n k. elim (cases_eq n (node_of g p)) [
-            | inl e ↦ subst (λ z. IsFree g order s t (i + 1) z (get_or (set frees (node_of g p) free) z 0)) (sym e)
+            | inl equal ↦ subst (λ z. IsFree g order s t (i + 1) z (get_or (set frees (node_of g p) free) z 0))
+                (sym equal)
                 (subst (IsFree g order s t (i + 1) (node_of g p))
                 (sym (get_or-set_same frees (node_of g p) free 0 (omega arith)))
-                (free_here g order topological frozen s t run i p l at free sent.slots_free))
+                (free_here g order topological frozen s t run i p p_below at free sent.slots_free))
             | inr other ↦
                 subst (IsFree g order s t (i + 1) n) (sym (get_or-set_other frees (node_of g p) n free 0 other))
-                (free_other g order topological frozen s t run i p l at n (get_or frees n 0) other (a.slots_free n k))
+                (free_other g order topological frozen s t run i p p_below at n (get_or frees n 0) other
+                (so_far.slots_free n k))
           ];
         }

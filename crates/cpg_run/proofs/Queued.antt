@@ -12,22 +12,26 @@ use Rattle.cpg_base.proofs.Places.{places_from_comes_before, before_contains, co
 module _ (g : Graph) (order : List ℕ) where
   -- y is sent by the node of x, and its producer is earlier in the order, or is that of x and gives y a lower rank
   record GoesBefore (y x : ℕ) : Type 0 where
+    -- y goes over the bus
     sent : is_sent g y ≡ true
+    -- it is of the same node as x
     home : home g y ≡ home g x
     sooner : (comes_before order (producer g y) (producer g x) ≡ true) ⊎
         ((producer g y ≡ producer g x) × (rank_of_item (item_at g y) < rank_of_item (item_at g x)))
 
   -- an item that is queued before x goes before it
   goes_before : (y x : ℕ) → is_queued_before g order y x ≡ true → GoesBefore y x
-  goes_before y x e =
-      let a = and_parts (is_sent g y && (home g y == home g x)) _ e in
-      let b = and_parts (is_sent g y) (home g y == home g x) a.0 in
+  goes_before y x queued =
+      let sent_and_order = and_parts (is_sent g y && (home g y == home g x)) _ queued in
+      let sent_parts = and_parts (is_sent g y) (home g y == home g x) sent_and_order.0 in
       record {
-        sent = b.0;
-        home = eqb-true _ _ b.1;
-        sooner = elim (or_cases (comes_before order (producer g y) (producer g x)) _ a.1) [
-          | inl c ↦ inl c
-          | inr c ↦ let d = and_parts (producer g y == producer g x) _ c in inr (eqb-true _ _ d.0, ltb-true _ _ d.1)
+        sent = sent_parts.0;
+        home = eqb-true _ _ sent_parts.1;
+        sooner = elim (or_cases (comes_before order (producer g y) (producer g x)) _ sent_and_order.1) [
+          | inl by_order ↦ inl by_order
+          | inr by_order ↦
+              let same_producer = and_parts (producer g y == producer g x) _ by_order in
+              inr (eqb-true _ _ same_producer.0, ltb-true _ _ same_producer.1)
         ];
       }
 
@@ -64,18 +68,18 @@ module _ (g : Graph) (order : List ℕ) where
   -- an item that the list before x in the queue contains is one of the graph, and is queued before x
   in_queue : (x y : ℕ) → Contains (queued_before g order x) y →
       Contains (numbers_below (item_count g)) y × (is_queued_before g order y x ≡ true)
-  in_queue x y j = Contains-filter_parts (λ y. is_queued_before g order y x) (numbers_below (item_count g)) y j
+  in_queue x y among = Contains-filter_parts (λ y. is_queued_before g order y x) (numbers_below (item_count g)) y among
 
   -- the producer of an item before x in the queue is not later in the order than that of x
   pub producer_no_later : (x y : ℕ) → Contains (queued_before g order x) y →
       place order (producer g y) ≤ place order (producer g x)
-  producer_no_later x y j = place_of y x (goes_before y x (in_queue x y j).1)
+  producer_no_later x y among = place_of y x (goes_before y x (in_queue x y among).1)
 
   -- an item before one that is before x in the queue is before x
   pub queue_chain : (x y z : ℕ) → Contains (queued_before g order x) y → Contains (queued_before g order y) z →
       Contains (queued_before g order x) z
-  queue_chain x y z j i =
-      let a = in_queue x y j in
-      let b = in_queue y z i in
+  queue_chain x y z y_before_x z_before_y =
+      let of_y = in_queue x y y_before_x in
+      let of_z = in_queue y z z_before_y in
       Contains-filter (λ z. is_queued_before g order z x) (numbers_below (item_count g)) z
-      (queued_by z x (chain z y x (goes_before z y b.1) (goes_before y x a.1))) b.0
+      (queued_by z x (chain z y x (goes_before z y of_z.1) (goes_before y x of_y.1))) of_z.0

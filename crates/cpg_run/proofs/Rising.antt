@@ -38,9 +38,10 @@ use Rattle.cpg_run.proofs.Bounded.{start_bounds_le, send_bounds_le}
 -- over plain numbers: rounding `away` up to whole turns adds at most a turn
 times_le : (away turn : ℕ) → div_ceil away turn * turn ≤ away + turn
 times_le away turn = elim (cases_lt 0 turn) [
-  | inl l ↦ let r = (div_ceil_times away turn l).1 in omega arith
-  | inr l ↦ let e : turn ≡ 0 = omega arith in
-      subst (λ n. div_ceil away n * n ≤ away + n) (sym e) (let z : div_ceil away 0 * 0 ≡ 0 = omega arith in omega arith)
+  | inl turn_or_none ↦ let r = (div_ceil_times away turn turn_or_none).1 in omega arith
+  | inr turn_or_none ↦ let no_turn : turn ≡ 0 = omega arith in
+      subst (λ n. div_ceil away n * n ≤ away + n) (sym no_turn)
+      (let nothing : div_ceil away 0 * 0 ≡ 0 = omega arith in omega arith)
 ]
 
 -- the next slot begins at most two rounds after the time
@@ -51,8 +52,8 @@ next_slot-le g node time =
 
 -- if b bounds an optional time, it bounds the greatest of its list, which is 0 if there is no time
 frozen_le : (o : Option ℕ) (b : ℕ) → ((time : ℕ) → o ≡ Some time → time ≤ b) → greatest (option_to_list o) ≤ b
-frozen_le None b h = omega arith
-frozen_le (Some time) b h = let l = h time refl in omega (arith, greatest-cons time [])
+frozen_le None b bounded = omega arith
+frozen_le (Some time) b bounded = let time_bounded = bounded time refl in omega (arith, greatest-cons time [])
 
 -- What is settled before a moment is no later than this. From one moment to the next the bound grows by more than an
 -- execution takes (600000000000) or two rounds take (32000000000).
@@ -61,6 +62,7 @@ bound base m = base + m * 700000000000
 
 -- a frozen time is no later than its item could be
 pub record AreLow (base : ℕ) (g : Graph) (order : List ℕ) (frozen : List (Option ℕ)) : Type 0 where
+  -- no frozen time is later than two rounds after the bound of its item's moment
   pub low : (x time : ℕ) → x < item_count g → get_or frozen x None ≡ Some time →
       time ≤ bound base (moment g order x) + 32000000000
 
@@ -68,7 +70,9 @@ pub record AreLow (base : ℕ) (g : Graph) (order : List ℕ) (frozen : List (Op
 module _ (base : ℕ) (g : Graph) (order : List ℕ) (frozen : List (Option ℕ)) (s : Scenario) (t : Times) where
   -- the times and ends before a moment are at most the bound of the moment
   pub record SmallBefore (m : ℕ) : Type 0 where
+    -- no item with a moment before m has a time after the bound
     pub items : (x : ℕ) → x < item_count g → moment g order x < m → time_in t x ≤ bound base m
+    -- no process with an end before m ends after the bound
     pub ends : (p : ℕ) → p < process_count g → moment_of_end g order p < m → end_in t p ≤ bound base m
 
   -- given: a run under frozen times that are low
@@ -77,67 +81,75 @@ module _ (base : ℕ) (g : Graph) (order : List ℕ) (frozen : List (Option ℕ)
     -- a frame of an earlier moment arrives no later than a round (at most 16000000000) after the bound
     frame_le : (m x : ℕ) → SmallBefore m → x < item_count g → moment g order x < m →
         frame_there g t x ≤ bound base m + 16000000000
-    frame_le m x a l h = omega (arith, a.items x l h, slot_length-le g (home g x), round-le g within)
+    frame_le m x small below less = omega (
+      arith,
+      small.items x below less,
+      slot_length-le g
+          (home g x),
+      round-le g within,
+    )
 
-    -- given: a moment m before which all times are small (`a`), and a process p whose start is at m or sooner (`at`)
-    module _ (m p : ℕ) (a : SmallBefore m) (at : place order p * phases g ≤ m) where
+    -- given: a moment m before which all times are small (`small`), and a process p whose start is at m or sooner
+    -- (`at`)
+    module _ (m p : ℕ) (small : SmallBefore m) (at : place order p * phases g ≤ m) where
       -- an input of p is there by a round after the bound: a message is sent at an earlier moment, and any other input's source
       -- ends at one
       input_le : (e : ℕ) → Contains (inputs g p) e → input_there g t e ≤ bound base m + 16000000000
-      input_le e c =
-          let h = (inputs_parts g p e c).0 in
-          let up = input_goes_up g order topological p e c in
+      input_le e among =
+          let below = (inputs_parts g p e among).0 in
+          let up = input_goes_up g order topological p e among in
           elim (cases_Bool (is_message g e)) [
             | inl is ↦ subst (λ n. n ≤ bound base m + 16000000000) (sym (cond-true _ _ _ is))
-                (frame_le m (message_item g e) a (omega arith)
-                (omega (arith, message_sooner g order topological p e h up)))
+                (frame_le m (message_item g e) small (omega arith)
+                (omega (arith, message_sooner g order topological p e below up)))
             | inr is ↦ subst (λ n. n ≤ bound base m + 16000000000) (sym (cond-false _ _ _ is))
                 (omega (
                   arith,
-                  a.ends (source g e) (source_in_order g order topological e h)
+                  small.ends (source g e) (source_in_order g order topological e below)
                       (omega (arith, end_sooner g order topological p (source g e) up)),
                 ))
           ]
 
       -- a process before p on its node has ended by then, as it ends at an earlier moment
       ended_le : (q : ℕ) → Contains (before_on_node g order p) q → end_in t q ≤ bound base m + 16000000000
-      ended_le q c =
-          let b = on_node_before g order p q c in
+      ended_le q among =
+          let before_p = on_node_before g order p q among in
           omega (
             arith,
-            a.ends q (from_order (process_count g) order topological.all q b.0)
-                (omega (arith, end_sooner g order topological p q b.1)),
+            small.ends q (from_order (process_count g) order topological.all q before_p.0)
+                (omega (arith, end_sooner g order topological p q before_p.1)),
           )
 
       -- a condition that the start waits for is heard by the bound of the moment and a slot: one of the node itself at an earlier
       -- end, any other by an earlier broadcast
       heard_le : (c : ℕ) → Contains (flat_map (deciding g s.values) (before_on_node g order p ++ p ∷ [])) c →
           heard_there g t (node_of g p) c ≤ bound base m + 16000000000
-      heard_le c d =
-          let q = Contains-flat_map_parts (deciding g s.values) (before_on_node g order p ++ p ∷ []) c d in
-          let r = Contains-filter_parts (decides g s.values q.0) (numbers_below (condition_count g)) c q.2 in
-          let h = numbers-Contains (condition_count g) c r.0 in
-          let l = not_later g order p q.0 q.1 in
+      heard_le c among =
+          let decided = Contains-flat_map_parts (deciding g s.values) (before_on_node g order p ++ p ∷ []) c among in
+          let parts = Contains-filter_parts (decides g s.values decided.0)
+          (numbers_below (condition_count g)) c decided.2 in
+          let below = numbers-Contains (condition_count g) c parts.0 in
+          let no_later = not_later g order p decided.0 decided.1 in
           let up : place order (process_of g c) < place order p =
-          omega (arith, decides_earlier g order topological s.values q.0 c h r.1) in
+          omega (arith, decides_earlier g order topological s.values decided.0 c below parts.1) in
           elim (cases_Bool (node_of g (process_of g c) == node_of g p)) [
             -- the process is on the node, and ends at an earlier moment
             | inl is ↦ subst (λ n. n ≤ bound base m + 16000000000) (sym (cond-true _ _ _ is))
                 (omega (
                   arith,
-                  a.ends (process_of g c) (process_of_below g c h)
+                  small.ends (process_of g c) (process_of_below g c below)
                       (omega (arith, end_sooner g order topological p (process_of g c) up)),
                 ))
             -- the broadcast has an earlier moment, and arrives a slot later
             | inr is ↦ subst (λ n. n ≤ bound base m + 16000000000) (sym (cond-false _ _ _ is))
-                (frame_le m (broadcast_item g c) a (omega arith)
+                (frame_le m (broadcast_item g c) small (omega arith)
                 (omega (arith, broadcast_sooner g order topological p c up)))
           ]
 
       -- no bound of the start of p is later than a round after the bound of the moment
       start_le : p < process_count g → greatest (start_bounds g order s t p) ≤ bound base m + 16000000000
-      start_le l =
-          let release : (process_at g p).release ≤ 1000000000 = (within.processes p _ l).release in
+      start_le below =
+          let release : (process_at g p).release ≤ 1000000000 = (within.processes p _ below).release in
           start_bounds_le g order s t p (bound base m + 16000000000) (omega arith) (λ e c k. input_le e c)
           (λ q c k. ended_le q c) heard_le
 
@@ -145,57 +157,63 @@ module _ (base : ℕ) (g : Graph) (order : List ℕ) (frozen : List (Option ℕ)
     send_le : (m x : ℕ) → SmallBefore m → moment g order x ≤ m → x < item_count g →
         phase (item_at g x) ≡ rank_of_item (item_at g x) + 2 →
         greatest (send_bounds g order s t x) ≤ bound base m + 32000000000
-    send_le m x a before l sends = send_bounds_le g order s t x (bound base m + 32000000000)
+    send_le m x small no_later below sends = send_bounds_le g order s t x (bound base m + 32000000000)
         (omega (
           arith,
           next_slot-le g (home g x) (end_in t (producer g x)),
           round-le g within,
-          a.ends (producer g x) (producer_in_range g order topological x l) (omega arith),
+          small.ends (producer g x) (producer_in_range g order topological x below) (omega arith),
         ))
-        (λ y c active.
-        let q = Contains-filter_parts (λ (z : ℕ). is_queued_before g order z x) (numbers_below (item_count g)) y c in
-        let k = numbers-Contains (item_count g) y q.0 in
-        omega
-        (arith, round-le g within, a.items y k (omega (arith, queued_sooner g order topological y x k sends q.1))))
+        (λ y among active.
+        let parts = Contains-filter_parts (λ (z : ℕ). is_queued_before g order z x)
+        (numbers_below (item_count g)) y among in
+        let item_below = numbers-Contains (item_count g) y parts.0 in
+        omega (
+          arith,
+          round-le g within,
+          small.items y item_below
+              (omega (arith, queued_sooner g order topological y x item_below sends parts.1)),
+        ))
 
     -- no bound of any item is later than two rounds after the bound of its moment
     unfrozen_le : (m x : ℕ) → SmallBefore m → moment g order x ≤ m → x < item_count g → ItemCases g x →
         unfrozen_time g order s t x ≤ bound base m + 32000000000
-    unfrozen_le m x a before l (inl c) =
-        subst (λ i. greatest (bounds_of_item g order s t x i) ≤ bound base m + 32000000000) (sym c.1)
-        (omega (arith, start_le m x a (omega (arith, moment_of_start g order topological x c.0)) c.0))
-    unfrozen_le m x a before l (inr (inl c)) =
-        subst (λ i. greatest (bounds_of_item g order s t x i) ≤ bound base m + 32000000000) (sym c.3)
-        (send_le m x a before l
-        (subst (λ i. phase i ≡ rank_of_item i + 2) (sym c.3) (let r : c.0 + 3 ≡ c.0 + 1 + 2 = omega arith in r)))
-    unfrozen_le m x a before l (inr (inr c)) =
-        subst (λ i. greatest (bounds_of_item g order s t x i) ≤ bound base m + 32000000000) (sym c.3)
-        (send_le m x a before l
-        (subst (λ i. phase i ≡ rank_of_item i + 2) (sym c.3) (let r : 2 ≡ 0 + 2 = omega arith in r)))
+    unfrozen_le m x small before below (inl kind) =
+        subst (λ i. greatest (bounds_of_item g order s t x i) ≤ bound base m + 32000000000) (sym kind.1)
+        (omega (arith, start_le m x small (omega (arith, moment_of_start g order topological x kind.0)) kind.0))
+    unfrozen_le m x small before below (inr (inl kind)) =
+        subst (λ i. greatest (bounds_of_item g order s t x i) ≤ bound base m + 32000000000) (sym kind.3)
+        (send_le m x small before below
+        (subst (λ i. phase i ≡ rank_of_item i + 2) (sym kind.3)
+        (let sums : kind.0 + 3 ≡ kind.0 + 1 + 2 = omega arith in sums)))
+    unfrozen_le m x small before below (inr (inr kind)) =
+        subst (λ i. greatest (bounds_of_item g order s t x i) ≤ bound base m + 32000000000) (sym kind.3)
+        (send_le m x small before below
+        (subst (λ i. phase i ≡ rank_of_item i + 2) (sym kind.3) (let sums : 2 ≡ 0 + 2 = omega arith in sums)))
 
     -- an item's time is at most `b` if its unfrozen time and its frozen time are
     time_le : (x b : ℕ) → x < item_count g → unfrozen_time g order s t x ≤ b →
         ((time : ℕ) → get_or frozen x None ≡ Some time → time ≤ b) → time_in t x ≤ b
-    time_le x b l h k = elim (cases_Bool (item_active g s.values (item_at g x))) [
-      | inl a ↦ omega (
+    time_le x b below bound_low frozen_low = elim (cases_Bool (item_active g s.values (item_at g x))) [
+      | inl activity ↦ omega (
         arith,
-        time_in_active g order frozen s t run x l a,
+        time_in_active g order frozen s t run x below activity,
         greatest-cons (unfrozen_time g order s t x) (option_to_list (get_or frozen x None)),
-        frozen_le (get_or frozen x None) b k,
+        frozen_le (get_or frozen x None) b frozen_low,
       )
-      | inr a ↦ let e : time_in t x ≡ 0 =
-          ap (λ o. unwrap_or o 0) (time_is g order frozen s t run x l ∙ cond-false _ _ _ a) in
+      | inr activity ↦ let no_time : time_in t x ≡ 0 =
+          ap (λ o. unwrap_or o 0) (time_is g order frozen s t run x below ∙ cond-false _ _ _ activity) in
           omega arith
     ]
 
     -- an end, or 0 if there is none, is at most the duration after a bound of the start
     end_from : (o : Option ℕ) (d b : ℕ) → unwrap_or o 0 ≤ b → unwrap_or (option_map (λ start. start + d) o) 0 ≤ b + d
-    end_from None d b h = omega arith
-    end_from (Some n) d b h = omega arith
+    end_from None d b at_most = omega arith
+    end_from (Some n) d b at_most = omega arith
 
     -- no process has more than 8 faults
     fault_le : (p : ℕ) → p < process_count g → fault_of s p ≤ 8
-    fault_le p l = omega (
+    fault_le p below = omega (
       arith,
       get_or-le-sum_by (λ (n : ℕ). n) s.faults p 0 (omega (arith, lawful.faults)),
       lawful.budget,
@@ -204,38 +222,42 @@ module _ (base : ℕ) (g : Graph) (order : List ℕ) (frozen : List (Option ℕ)
 
     -- an end is at most the longest duration (600000000000) after a bound of the start
     end_le : (p b : ℕ) → p < process_count g → time_in t p ≤ b → end_in t p ≤ b + 600000000000
-    end_le p b l h =
-        let e : end_in t p ≡ unwrap_or (end_by g s t p) 0 =
-        ap (λ o. unwrap_or o 0) (end_is g order frozen s t run p l) in
+    end_le p b below start_low =
+        let by_rule : end_in t p ≡ unwrap_or (end_by g s t p) 0 =
+        ap (λ o. unwrap_or o 0) (end_is g order frozen s t run p below) in
         omega (
           arith,
-          end_from (get_or t.times p None) (duration g p (fault_of s p)) b h,
-          duration-le g p (fault_of s p) within l (fault_le p l),
+          end_from (get_or t.times p None) (duration g p (fault_of s p)) b start_low,
+          duration-le g p (fault_of s p) within below (fault_le p below),
         )
 
     -- by induction on m: no time or end before the moment m is later than the bound of m
     pub small_before : (m : ℕ) → SmallBefore m
-    small_before zero = record { items = λ x l h. absurd (omega arith); ends = λ p l h. absurd (omega arith) }
+    small_before zero = record {
+      items = λ x below earlier. absurd (omega arith);
+      ends = λ p below earlier. absurd (omega arith);
+    }
     small_before (suc m) =
-        let a = small_before m in
+        let small = small_before m in
         record {
-          items = λ x l h. omega (
+          items = λ x below earlier. omega (
             arith,
-            time_le x (bound base m + 32000000000) l (unfrozen_le m x a (omega arith) l (item_cases g x l))
-                (λ time e. omega (arith, low.low x time l e)),
+            time_le x (bound base m + 32000000000) below
+                (unfrozen_le m x small (omega arith) below (item_cases g x below))
+                (λ time frozen_at. omega (arith, low.low x time below frozen_at)),
           );
-          ends = λ p l h. omega (
+          ends = λ p below earlier. omega (
             arith,
-            end_le p (bound base m) l
-                (a.items p (omega arith) (omega (arith, moment_of_start g order topological p l))),
+            end_le p (bound base m) below
+                (small.items p (omega arith) (omega (arith, moment_of_start g order topological p below))),
           );
         }
 
     -- the time that an item would have if it were not frozen is no later than the item could be
     pub unfrozen_low : (x : ℕ) → x < item_count g →
         unfrozen_time g order s t x ≤ bound base (moment g order x) + 32000000000
-    unfrozen_low x l =
-        unfrozen_le (moment g order x) x (small_before (moment g order x)) (omega arith) l (item_cases g x l)
+    unfrozen_low x below =
+        unfrozen_le (moment g order x) x (small_before (moment g order x)) (omega arith) below (item_cases g x below)
 
 -- the number of moments is at most 128 * 259: there are at most 128 processes, with at most 259 phases each
 pub last_le : (g : Graph) → IsWithinLimits g → last g ≤ 128 * 259
@@ -243,4 +265,4 @@ last_le g within = product (process_count g) (phases g) within.few_processes (om
   where
     -- a product is at most that of greater factors
     product : (a b : ℕ) → a ≤ 128 → b ≤ 259 → a * b ≤ 128 * 259
-    product a b h k = mul-le-mul h k
+    product a b a_at_most b_at_most = mul-le-mul a_at_most b_at_most

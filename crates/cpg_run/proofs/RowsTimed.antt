@@ -72,12 +72,15 @@ module _ (g : Graph) (urgency order : List ℕ) (frozen : List (Option ℕ)) (ti
   rows_below : (n bound : ℕ) → bound ≤ n →
       ((y : ℕ) → IsEarlier g order bound y → IsRowOf g urgency order frozen rows y) →
       AreRowsBefore g order frozen bound rows
-  rows_below zero bound h found =
-      record { cubes = λ y e. absurd (omega (arith, e.1, h)); times = λ y e. absurd (omega (arith, e.1, h)) }
-  rows_below (suc n) bound h found = record {
+  rows_below zero bound at_most found =
+      record {
+        cubes = λ y e. absurd (omega (arith, e.1, at_most));
+        times = λ y e. absurd (omega (arith, e.1, at_most));
+      }
+  rows_below (suc n) bound at_most found = record {
     cubes = λ y e. (found y e).merge.cubes;
     times = λ y e s t law run.
-        let earlier = rows_below n (place order (producer g y)) (omega (arith, e.1, h))
+        let earlier = rows_below n (place order (producer g y)) (omega (arith, e.1, at_most))
         (λ v i. found v (i.0, omega (arith, i.1, e.1))) in
         (found y e).merge.times s law ∙ entries_times g urgency order frozen rows y timed e.0 earlier
         (found y e).entries (found y e).are s t law run;
@@ -92,8 +95,9 @@ module _ (g : Graph) (urgency order : List ℕ) (frozen : List (Option ℕ)) (ti
   pub row_times : (x : ℕ) → x < item_count g → AreRowsBefore g order frozen (place order (producer g x)) rows →
       IsRowOf g urgency order frozen rows x →
       HaveTimesOf g order frozen x (row_at rows x)
-  row_times x l earlier is s t law run =
-      is.merge.times s law ∙ entries_times g urgency order frozen rows x timed l earlier is.entries is.are s t law run
+  row_times x below earlier is s t law run =
+      is.merge.times s law ∙ entries_times g urgency order frozen rows x timed below earlier is.entries is.are s t law
+      run
 
   -- given: the row of each item, which is that of its entries
   module _ (all : AreRows g urgency order frozen rows) where
@@ -103,4 +107,4 @@ module _ (g : Graph) (urgency order : List ℕ) (frozen : List (Option ℕ)) (ti
 
     -- each row has the times of the runs
     pub rows_times : (x : ℕ) → x < item_count g → HaveTimesOf g order frozen x (row_at rows x)
-    rows_times x l = row_times x l (all_before (place order (producer g x))) (all.each x l)
+    rows_times x below = row_times x below (all_before (place order (producer g x))) (all.each x below)

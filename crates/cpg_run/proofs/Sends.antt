@@ -36,36 +36,39 @@ use Rattle.cpg_run.proofs.Starts.{greatest_option, both_ways_equal}
 -- an element of the first k + 1 is one of the first k, or that at place k
 pub take_next : (xs : List ℕ) (k y : ℕ) → k < length xs → Contains (take (k + 1) xs) y →
     Contains (take k xs) y ⊎ (y ≡ get_or xs k 0)
-take_next xs k y l c =
+take_next xs k y below among =
     let is : take (k + 1) xs ≡ take k xs ++ get_or xs k 0 ∷ [] =
-    ap (λ n. take n xs) (let e : k + 1 ≡ suc k = omega arith in e) ∙ take-suc xs k 0 l in
-    elim (Contains-append_cases (take k xs) (get_or xs k 0 ∷ []) y (subst (λ ys. Contains ys y) is c)) [
-      | inl a ↦ inl a
-      | inr b ↦
-          elim (Contains-cases (get_or xs k 0) [] y b) [ inl e ↦ inr (sym e) | inr none ↦ absurd (Contains-nil y none) ]
+    ap (λ n. take n xs) (let one_more : k + 1 ≡ suc k = omega arith in one_more) ∙ take-suc xs k 0 below in
+    elim (Contains-append_cases (take k xs) (get_or xs k 0 ∷ []) y (subst (λ ys. Contains ys y) is among)) [
+      | inl among_first ↦ inl among_first
+      | inr at_place ↦
+          elim (Contains-cases (get_or xs k 0) [] y at_place) [
+            | inl is_it ↦ inr (sym is_it)
+            | inr none ↦ absurd (Contains-nil y none)
+          ]
     ]
 
 -- an element of the first k, or that at place k, is one of the first k + 1
 pub in_next : (xs : List ℕ) (k y : ℕ) → k < length xs → Contains (take k xs) y ⊎ (y ≡ get_or xs k 0) →
     Contains (take (k + 1) xs) y
-in_next xs k y l c =
+in_next xs k y below among_or_at =
     let is : take (k + 1) xs ≡ take k xs ++ get_or xs k 0 ∷ [] =
-    ap (λ n. take n xs) (let e : k + 1 ≡ suc k = omega arith in e) ∙ take-suc xs k 0 l in
-    subst (λ ys. Contains ys y) (sym is) (elim c [
-      | inl a ↦ Contains-append_left (take k xs) (get_or xs k 0 ∷ []) y a
-      | inr e ↦ subst (Contains (take k xs ++ get_or xs k 0 ∷ [])) (sym e)
+    ap (λ n. take n xs) (let one_more : k + 1 ≡ suc k = omega arith in one_more) ∙ take-suc xs k 0 below in
+    subst (λ ys. Contains ys y) (sym is) (elim among_or_at [
+      | inl among_first ↦ Contains-append_left (take k xs) (get_or xs k 0 ∷ []) y among_first
+      | inr at_place ↦ subst (Contains (take k xs ++ get_or xs k 0 ∷ [])) (sym at_place)
           (Contains-append_right (take k xs) (get_or xs k 0 ∷ []) (get_or xs k 0) (Contains-first (get_or xs k 0) []))
     ])
 
 -- the first elements of a list are elements of it
 pub Contains-take : (n : ℕ) (xs : List ℕ) (x : ℕ) → Contains (take n xs) x → Contains xs x
-Contains-take n xs x c =
-    subst (λ ys. Contains ys x) (take-append-drop n xs) (Contains-append_left (take n xs) (drop n xs) x c)
+Contains-take n xs x among =
+    subst (λ ys. Contains ys x) (take-append-drop n xs) (Contains-append_left (take n xs) (drop n xs) x among)
 
 -- given: a process under a topological order
 -- the queue of p has the items that p sends over the bus, in the order in which they are sent
 module _ (g : Graph) (order : List ℕ) (topological : IsTopological g order) (s : Scenario) (p : ℕ)
-    (l : p < process_count g) where
+    (p_below : p < process_count g) where
   -- ---- what a node has sent before an item
 
   -- given: a place k of p's queue
@@ -81,44 +84,53 @@ module _ (g : Graph) (order : List ℕ) (topological : IsTopological g order) (s
     -- an active item queued before this one is sent for an earlier process, or is one of the first k of p
     queued_is_by : (y : ℕ) → Contains (queued_before g order here) y → item_active g s.values (item_at g y) ≡ true →
         IsSentBy g order s p k y
-    queued_is_by y c acts =
-        let f = Contains-filter_parts (λ y. is_queued_before g order y here) (numbers_below (item_count g)) y c in
-        let m : y < item_count g = numbers-Contains (item_count g) y f.0 in
-        let b = and_parts _ _ f.1 in
-        let d = and_parts _ _ b.0 in
-        let x = in_queue g p here here_sent in (
-          record { within = m; sent = d.0; home = eqb-true _ _ d.1 ∙ ap (node_of g) x.by; active = acts },
+    queued_is_by y in_queue_before acts =
+        let parts = Contains-filter_parts (λ y. is_queued_before g order y here)
+        (numbers_below (item_count g)) y in_queue_before in
+        let below : y < item_count g = numbers-Contains (item_count g) y parts.0 in
+        let tests = and_parts _ _ parts.1 in
+        let sent_tests = and_parts _ _ tests.0 in
+        let sent_here = in_queue g p here here_sent in (
+          record {
+            within = below;
+            sent = sent_tests.0;
+            home = eqb-true _ _ sent_tests.1 ∙ ap (node_of g) sent_here.by;
+            active = acts;
+          },
           ⊎_elim
-              (λ (e : comes_before order (producer g y) (producer g here) ≡ true).
-              inl (let less = places_from_comes_before order (producer g y) (producer g here) e in
-              omega (arith, ap (place order) x.by)))
-              (λ (e : ((producer g y == producer g here) && ltb (rank_of_item (item_at g y)) (rank_of_item (item_at g here))) ≡ true).
-              let w = and_parts (producer g y == producer g here) _ e in
+              (λ (by_order : comes_before order (producer g y) (producer g here) ≡ true).
+              inl (let less = places_from_comes_before order (producer g y) (producer g here) by_order in
+              omega (arith, ap (place order) sent_here.by)))
+              (λ (by_order : ((producer g y == producer g here) && ltb (rank_of_item (item_at g y))
+              (rank_of_item (item_at g here))) ≡ true).
+              let same_and_less = and_parts (producer g y == producer g here) _ by_order in
               inr (in_first (rank_at g) (queue_of g p) (queue_rises g p) k inside y
-              (queue-Contains g p y m d.0 (eqb-true _ _ w.0 ∙ x.by)) (ltb-true _ _ w.1)))
-              (or_cases _ _ b.1),
+              (queue-Contains g p y below sent_tests.0 (eqb-true _ _ same_and_less.0 ∙ sent_here.by))
+              (ltb-true _ _ same_and_less.1)))
+              (or_cases _ _ tests.1),
         )
 
     -- and conversely: an active item that the node sends for an earlier process, or that is one of the first k of p, is queued
     -- before the item at place k, as it passes the tests of `is_queued_before`
     by_is_queued : (y : ℕ) → IsSentBy g order s p k y → Contains (queued_before g order here) y
-    by_is_queued y h =
-        let x = in_queue g p here here_sent in
-        let same : (home g y == home g here) ≡ true = eq-eqb _ _ (h.0.home ∙ sym (ap (node_of g) x.by)) in
-        queued_from g order topological here y h.0.within
-        (and_from _ _ (and_from _ _ h.0.sent same) (elim h.1 [
+    by_is_queued y sent =
+        let sent_here = in_queue g p here here_sent in
+        let same : (home g y == home g here) ≡ true = eq-eqb _ _ (sent.0.home ∙ sym (ap (node_of g) sent_here.by)) in
+        queued_from g order topological here y sent.0.within
+        (and_from _ _ (and_from _ _ sent.0.sent same) (elim sent.1 [
           | inl less ↦ or_left _ _ (comes_before_from_places order (producer g y) (producer g here)
               (Contains-order (process_count g) order topological.all (producer g y)
-              (producer_in_range g order topological y h.0.within)) (omega (arith, ap (place order) x.by)))
+              (producer_in_range g order topological y sent.0.within)) (omega (arith, ap (place order) sent_here.by)))
           | inr among ↦
-              let inq : Contains (queue_of g p) y = Contains-take k (queue_of g p) y among in
-              or_right _ _ (and_from _ _ (eq-eqb _ _ ((in_queue g p y inq).by ∙ sym x.by))
+              let of_p : Contains (queue_of g p) y = Contains-take k (queue_of g p) y among in
+              or_right _ _ (and_from _ _ (eq-eqb _ _ ((in_queue g p y of_p).by ∙ sym sent_here.by))
               (lt-ltb _ _ (below_first (rank_at g) (queue_of g p) (queue_rises g p) k inside y among)))
         ]))
 
     -- the item at place k is not among the first k
     pub not_among : Contains (take k (queue_of g p)) here → ⊥
-    not_among c = let less = below_first (rank_at g) (queue_of g p) (queue_rises g p) k inside here c in omega arith
+    not_among among =
+        let less = below_first (rank_at g) (queue_of g p) (queue_rises g p) k inside here among in omega arith
 
     -- ---- when it is sent
 
@@ -138,42 +150,55 @@ module _ (g : Graph) (order : List ℕ) (topological : IsTopological g order) (s
 
       -- the time of the item is the greatest of its bounds and its frozen time
       item_time : time_in t here ≡ max (greatest (send_bounds g order s t here)) (frozen_in frozen here)
-      item_time = let x = in_queue g p here here_sent in
-          time_in_active g order frozen s t run here x.within acts
+      item_time = let its_parts = in_queue g p here here_sent in
+          time_in_active g order frozen s t run here its_parts.within acts
           ∙ greatest-cons (unfrozen_time g order s t here) (option_to_list (get_or frozen here None))
-          ∙ ap₂ max (unfrozen_sent g order frozen s t run here x.sent) (greatest_option (get_or frozen here None))
+          ∙ ap₂ max (unfrozen_sent g order frozen s t run here its_parts.sent)
+          (greatest_option (get_or frozen here None))
 
       -- the slots are free by the item's time
       free_by : free ≤ time_in t here
-      free_by = let x = in_queue g p here here_sent in
+      free_by = let its_parts = in_queue g p here here_sent in
           is_free.least (time_in t here)
-          (λ y h. queue_below g order frozen s t run here y x.within acts x.sent (by_is_queued y h) h.0.active)
+          (λ y sent_y. queue_below g order frozen s t run here y its_parts.within acts its_parts.sent
+          (by_is_queued y sent_y) sent_y.0.active)
 
       -- no bound of the item is above the time found
       bounds_found : greatest (send_bounds g order s t here) ≤ found
       bounds_found = send_bounds_le g order s t here found (omega (arith, at_producer))
-          (λ y c a. omega (arith, is_free.above y (queued_is_by y c a)))
+          (λ y queued_y acts_y. omega (arith, is_free.above y (queued_is_by y queued_y acts_y)))
 
       -- the time found is the item's time in the run: each of its parts is at most this time, and no bound of the item is above it
       pub send_is : max (max (next_slot g (node_of g p) (end_in t p)) free) (frozen_in frozen here) ≡ time_in t here
-      send_is = let x = in_queue g p here here_sent in
+      send_is = let its_parts = in_queue g p here here_sent in
           both_ways_equal found (time_in t here)
-          (omega
-          (arith, free_by, item_time, at_producer, producer_below g order frozen s t run here x.within acts x.sent))
+          (omega (
+            arith,
+            free_by,
+            item_time,
+            at_producer,
+            producer_below g order frozen s t run here its_parts.within acts
+                its_parts.sent,
+          ))
           (omega (arith, item_time, bounds_found))
 
       -- the slots are free again a round after that item
       pub free_next : IsMost (IsSentBy g order s p (k + 1)) (free_after g t) (time_in t here + round g)
-      free_next = let x = in_queue g p here here_sent in record {
+      free_next = let its_parts = in_queue g p here here_sent in record {
         above = λ y h. elim h.1 [
           | inl less ↦ omega (arith, free_by, is_free.above y (h.0, inl less))
-          | inr c ↦ elim (take_next (queue_of g p) k y inside c) [
+          | inr among_next ↦ elim (take_next (queue_of g p) k y inside among_next) [
             | inl among ↦ omega (arith, free_by, is_free.above y (h.0, inr among))
             | inr e ↦ omega (arith, ap (time_in t) e)
           ]
         ];
         least = λ b h. h here (
-          record { within = x.within; sent = x.sent; home = ap (node_of g) x.by; active = acts },
+          record {
+            within = its_parts.within;
+            sent = its_parts.sent;
+            home = ap (node_of g) its_parts.by;
+            active = acts;
+          },
           inr (in_next (queue_of g p) k here inside (inr refl)),
         );
       }
@@ -226,13 +251,13 @@ module _ (g : Graph) (order : List ℕ) (topological : IsTopological g order) (s
         item_active g s.values (item_at g item) ≡ false →
         HasSent g order s t p (k + 1) old known free
     sent_idle none idle =
-        let x = in_queue g p item (here_sent k inside) in
+        let of_queue = in_queue g p item (here_sent k inside) in
         let no_time : get_or t.times item None ≡ None =
-        time_is g order frozen s t run item x.within ∙ cond-false _ _ _ idle in
+        time_is g order frozen s t run item of_queue.within ∙ cond-false _ _ _ idle in
         record {
           sent = λ y c. elim (take_next (queue_of g p) k y inside c) [
             | inl among ↦ has.sent y among
-            | inr e ↦ subst (λ z. get_or known.times z None ≡ get_or t.times z None) (sym e)
+            | inr is_item ↦ subst (λ z. get_or known.times z None ≡ get_or t.times z None) (sym is_item)
                 (has.others item (not_among k inside) ∙ none item (here_sent k inside) ∙ sym no_time)
           ];
           others = λ y c. has.others y (λ among. c (in_next (queue_of g p) k y inside (inl among)));
@@ -247,23 +272,23 @@ module _ (g : Graph) (order : List ℕ) (topological : IsTopological g order) (s
         → time ≡ max (max (next_slot g (node_of g p) (end_in t p)) free) (frozen_in frozen item) →
         HasSent g order s t p (k + 1) old new (time + round g)
     sent_active new time long is acts at =
-        let x = in_queue g p item (here_sent k inside) in
+        let of_queue = in_queue g p item (here_sent k inside) in
         let right : time ≡ time_in t item = at ∙ send_is k inside frozen t run free has.slots_free acts in
         record {
           -- the item's place of the list is set, and the first k keep their times
           sent = λ y c. elim (cases_eq y item) [
-            | inl e ↦ subst (λ z. get_or new.times z None ≡ get_or t.times z None) (sym e)
+            | inl is_item ↦ subst (λ z. get_or new.times z None ≡ get_or t.times z None) (sym is_item)
                 (ap (λ ts. get_or ts item None) is ∙ get_or-set_same known.times item (Some time) None long
-                ∙ ap Some right ∙ sym (has_time g order frozen s t run item x.within acts))
+                ∙ ap Some right ∙ sym (has_time g order frozen s t run item of_queue.within acts))
             | inr other ↦ ap (λ ts. get_or ts y None) is ∙ get_or-set_other known.times item y (Some time) None other
                 ∙ elim (take_next (queue_of g p) k y inside c) [
                   | inl among ↦ has.sent y among
-                  | inr e ↦ absurd (other e)
+                  | inr is_item ↦ absurd (other is_item)
                 ]
           ];
           others = λ y c. ap (λ ts. get_or ts y None) is
               ∙ get_or-set_other known.times item y (Some time) None
-              (λ e. c (in_next (queue_of g p) k y inside (inr e)))
+              (λ is_item. c (in_next (queue_of g p) k y inside (inr is_item)))
               ∙ has.others y (λ among. c (in_next (queue_of g p) k y inside (inl among)));
           -- the item is the last that was sent, so the slots are free a round after it
           slots_free = subst (IsMost (IsSentBy g order s p (k + 1)) (free_after g t))
@@ -274,6 +299,6 @@ module _ (g : Graph) (order : List ℕ) (topological : IsTopological g order) (s
 pub found_is : (g : Graph) (frozen : List (Option ℕ)) (time free node sender end last item x : ℕ) →
     time ≡ max (max (next_slot g node end) free) (frozen_in frozen item)
     → node ≡ sender → end ≡ last → item ≡ x → time ≡ max (max (next_slot g sender last) free) (frozen_in frozen x)
-found_is g frozen time free node sender end last item x is n e i =
-    is ∙ ap₂ (λ a b. max (max (next_slot g a b) free) (frozen_in frozen item)) n e ∙
-    ap (λ y. max (max (next_slot g sender last) free) (frozen_in frozen y)) i
+found_is g frozen time free node sender end last item x time_found same_node same_end same_item =
+    time_found ∙ ap₂ (λ a b. max (max (next_slot g a b) free) (frozen_in frozen item)) same_node same_end ∙
+    ap (λ y. max (max (next_slot g sender last) free) (frozen_in frozen y)) same_item

@@ -22,8 +22,9 @@ use Rattle.cpg_run.proofs.FrozenOrder.{later_moment, frozen_listed, lists_frozen
 -- with nothing frozen, no item has a frozen time
 pub none_frozen : (g : Graph) (x : ℕ) → get_or (nothing_frozen g) x None ≡ None
 none_frozen g x = elim (cases_lt x (item_count g)) [
-  | inl l ↦ get_or-replicate (item_count g) x None None l
-  | inr l ↦ get_or_past (nothing_frozen g) x None (omega (arith, length-replicate {A = Option ℕ} (item_count g) None))
+  | inl less ↦ get_or-replicate (item_count g) x None None less
+  | inr at_least ↦ get_or_past (nothing_frozen g) x None
+      (omega (arith, length-replicate {A = Option ℕ} (item_count g) None))
 ]
 
 -- the first n of the frozen items along an order have their times, and no other item has one
@@ -50,7 +51,7 @@ module _ (g : Graph) (order : List ℕ) (topological : IsTopological g order) wh
   would_have_same : (frozen others : List (Option ℕ)) (x time : ℕ) → x < item_count g → SameBefore frozen others x →
       WouldHave g order frozen x time →
       WouldHave g order others x time
-  would_have_same frozen others x time h same w =
+  would_have_same frozen others x time below same w =
       let other = the_run g order others w.scenario topological in
       let run = run_exists g order others w.scenario topological in
       record {
@@ -60,7 +61,7 @@ module _ (g : Graph) (order : List ℕ) (topological : IsTopological g order) wh
         run = run;
         active = w.active;
         has = sym (unfrozen_same g order topological w.scenario w.times other x (agree_before g order topological
-            w.scenario w.times other frozen others w.run run (moment g order x) same) h) ∙ w.has;
+            w.scenario w.times other frozen others w.run run (moment g order x) same) below) ∙ w.has;
       }
 
   -- if also x has the same time in both lists, and that is its frozen time under the one, it is so under the other
@@ -68,22 +69,23 @@ module _ (g : Graph) (order : List ℕ) (topological : IsTopological g order) wh
       get_or frozen x None ≡ get_or others x None →
       IsFrozenTime g order frozen x →
       IsFrozenTime g order others x
-  frozen_time_kept frozen others x h same here f = record {
-    reached = λ time e. would_have_same frozen others x time h same (f.reached time (here ∙ e));
+  frozen_time_kept frozen others x below same here f = record {
+    reached = λ time e. would_have_same frozen others x time below same (f.reached time (here ∙ e));
     greatest = λ time other e w.
-        f.greatest time other (here ∙ e) (would_have_same others frozen x other h (λ y i l. sym (same y i l)) w);
-    none = λ e time w. f.none (here ∙ e) time (would_have_same others frozen x time h (λ y i l. sym (same y i l)) w);
+        f.greatest time other (here ∙ e) (would_have_same others frozen x other below (λ y i l. sym (same y i l)) w);
+    none = λ e time w. f.none (here ∙ e) time
+        (would_have_same others frozen x time below (λ y i l. sym (same y i l)) w);
   }
 
   -- if x has in the second list the greatest time that it would have under the first, that is its frozen time under the second
   pub frozen_time_set : (frozen others : List (Option ℕ)) (x : ℕ) → x < item_count g → SameBefore frozen others x →
       IsUnfrozenTime g order frozen x (get_or others x None) →
       IsFrozenTime g order others x
-  frozen_time_set frozen others x h same f = record {
-    reached = λ time e. would_have_same frozen others x time h same (f.reached time e);
+  frozen_time_set frozen others x below same f = record {
+    reached = λ time e. would_have_same frozen others x time below same (f.reached time e);
     greatest = λ time other e w.
-        f.greatest time other e (would_have_same others frozen x other h (λ y i l. sym (same y i l)) w);
-    none = λ e time w. f.none e time (would_have_same others frozen x time h (λ y i l. sym (same y i l)) w);
+        f.greatest time other e (would_have_same others frozen x other below (λ y i l. sym (same y i l)) w);
+    none = λ e time w. f.none e time (would_have_same others frozen x time below (λ y i l. sym (same y i l)) w);
   }
 
   -- given: a list of items
@@ -104,26 +106,26 @@ module _ (g : Graph) (order : List ℕ) (topological : IsTopological g order) wh
         none : (x : ℕ) → get_or frozen x None ≡ None
         none x = ap (λ f. get_or f x None) is ∙ none_frozen h x
 
-    -- given: frozen times in which the first n of the listed items are settled (`a`)
-    module _ (n : ℕ) (frozen : List (Option ℕ)) (a : AreSettled g order items n frozen) where
+    -- given: frozen times in which the first n of the listed items are settled (`so_far`)
+    module _ (n : ℕ) (frozen : List (Option ℕ)) (so_far : AreSettled g order items n frozen) where
       -- each listed item is a frozen item of the graph
       pub item_frozen : (i : ℕ) → i < length items →
           (get_or items i 0 < item_count g) × (is_frozen g (get_or items i 0) ≡ true)
-      item_frozen i l = frozen_listed g order topological (get_or items i 0)
-          (subst (λ xs. Contains xs (get_or items i 0)) a.all (Contains-get_or items i 0 l))
+      item_frozen i below = frozen_listed g order topological (get_or items i 0)
+          (subst (λ xs. Contains xs (get_or items i 0)) so_far.all (Contains-get_or items i 0 below))
 
       -- the next item to settle is an item of the graph
       pub next_within : n < length items → get_or items n 0 < item_count g
-      next_within l = (item_frozen n l).0
+      next_within below = (item_frozen n below).0
 
       -- the next frozen item has no time yet, as the settled ones have earlier moments and so are others
       pub next_unset : n < length items → get_or frozen (get_or items n 0) None ≡ None
-      next_unset l = a.others (get_or items n 0)
-          (λ i k e. omega (arith, ap (moment g order) e, later_moment g order topological items a.all i n k l))
+      next_unset below = so_far.others (get_or items n 0)
+          (λ i k e. omega (arith, ap (moment g order) e, later_moment g order topological items so_far.all i n k below))
 
       -- the times that are settled are early
       pub settled_early : IsWithinLimits g → AreEarly frozen
-      settled_early within = early_from_low g order frozen within topological a.count a.low
+      settled_early within = early_from_low g order frozen within topological so_far.count so_far.low
 
       -- If the next item is set to the greatest time that it would have if it were not frozen, one item more is settled. Those
       -- before keep their frozen times, as these rest on earlier moments.
@@ -131,49 +133,53 @@ module _ (g : Graph) (order : List ℕ) (topological : IsTopological g order) wh
           IsUnfrozenTime g order frozen (get_or items n 0) (get_or more (get_or items n 0) None)
           → ((y : ℕ) → y ≢ get_or items n 0 → get_or more y None ≡ get_or frozen y None) → length more ≡ length frozen →
           AreSettled g order items (n + 1) more
-      settled_more within l more is same count =
+      settled_more within n_inside more is same count =
           let x = get_or items n 0 in
-          let h = next_within l in
+          let x_below = next_within n_inside in
           record {
-            all = a.all;
-            count = count ∙ a.count;
+            all = so_far.all;
+            count = count ∙ so_far.count;
             -- the item itself has the time that was found, and those before it keep theirs
             each = λ i k. elim (cases_eq i n) [
               | inl at ↦ subst (λ j. IsFrozenTime g order more (get_or items j 0)) (sym at)
-                  (frozen_time_set frozen more x h
+                  (frozen_time_set frozen more x x_below
                   (λ y w m. sym (same y (λ e. omega (arith, ap (moment g order) e)))) is)
               | inr apart ↦
-                  let sooner = later_moment g order topological items a.all i n (omega arith) l in
+                  let sooner = later_moment g order topological items so_far.all i n (omega arith) n_inside in
                   frozen_time_kept frozen more (get_or items i 0) (item_frozen i (omega arith)).0
                   (λ y w m. sym (same y (λ e. omega (arith, ap (moment g order) e))))
                   (sym (same (get_or items i 0) (λ e. omega (arith, ap (moment g order) e))))
-                  (a.each i (omega arith))
+                  (so_far.each i (omega arith))
             ];
-            others = λ y no. same y (λ e. no n (omega arith) (sym e)) ∙ a.others y (λ i k. no i (omega arith));
+            others = λ y no. same y (λ e. no n (omega arith) (sym e)) ∙ so_far.others y (λ i k. no i (omega arith));
             -- the new time is reached in a run, where it isn't late; the other times are as before
             low = record {
               low = λ y time w e. elim (cases_eq y x) [
                 | inl at ↦
-                    let r = is.reached time (ap (λ z. get_or more z None) (sym at) ∙ e) in
+                    let in_run = is.reached time (ap (λ z. get_or more z None) (sym at) ∙ e) in
                     subst (λ z. time ≤ bound 0 (moment g order z) + 32000000000) (sym at)
                     (omega (
                       arith,
-                      r.has,
-                      unfrozen_low 0 g order frozen r.scenario r.times within topological r.lawful a.low r.run x h,
+                      in_run.has,
+                      unfrozen_low 0 g order frozen in_run.scenario in_run.times within topological in_run.lawful
+                          so_far.low
+                          in_run.run x x_below,
                     ))
-                | inr apart ↦ a.low.low y time w (sym (same y apart) ∙ e)
+                | inr apart ↦ so_far.low.low y time w (sym (same y apart) ∙ e)
               ];
             };
           }
 
       -- once all listed items are settled, the list has the frozen times of the graph
       pub settled_all : n ≡ length items → AreFrozenTimes g order frozen
-      settled_all e = record {
-        count = a.count;
-        each = λ x h f.
-            let c = subst (λ xs. Contains xs x) (sym a.all) (lists_frozen g order topological x h f) in
-            subst (IsFrozenTime g order frozen) (get_or_default items c.0 0 x c.1 ∙ c.2)
-            (a.each c.0 (omega (arith, c.1)));
-        others = λ x f. a.others x
-            (λ i k is. both_ways (is_frozen g x) f (ap (is_frozen g) (sym is) ∙ (item_frozen i (omega arith)).1));
+      settled_all all_done = record {
+        count = so_far.count;
+        each = λ x below frozen_or_not.
+            let listed_at = subst (λ xs. Contains xs x) (sym so_far.all)
+            (lists_frozen g order topological x below frozen_or_not) in
+            subst (IsFrozenTime g order frozen) (get_or_default items listed_at.0 0 x listed_at.1 ∙ listed_at.2)
+            (so_far.each listed_at.0 (omega (arith, listed_at.1)));
+        others = λ x frozen_or_not. so_far.others x
+            (λ i k is. both_ways (is_frozen g x) frozen_or_not (ap (is_frozen g) (sym is) ∙
+            (item_frozen i (omega arith)).1));
       }

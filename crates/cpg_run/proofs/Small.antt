@@ -30,15 +30,25 @@ module _ (g : Graph) (order : List ℕ) (frozen : List (Option ℕ)) (s : Scenar
   pub run_small : AreSmall t
   run_small = record {
     times = λ x. elim (cases_lt x (item_count g)) [
-      | inl l ↦ omega (arith, at_last.items x l (moment_before_last g order topological x l), last_le g within)
-      | inr l ↦ let e : time_in t x ≡ 0 = ap (λ o. unwrap_or o 0)
+      | inl below_or_past ↦ omega (
+        arith,
+        at_last.items x below_or_past
+            (moment_before_last g order topological x below_or_past),
+        last_le g within,
+      )
+      | inr below_or_past ↦ let no_time : time_in t x ≡ 0 = ap (λ o. unwrap_or o 0)
           (get_or_past t.times x None (omega
           (arith, ap length run.times, length-map-range_with_len (time_by g order frozen s t) 0 (item_count g)))) in
           omega arith
     ];
     ends = λ p. elim (cases_lt p (process_count g)) [
-      | inl l ↦ omega (arith, at_last.ends p l (end_before_last g order topological p l), last_le g within)
-      | inr l ↦ let e : end_in t p ≡ 0 = ap (λ o. unwrap_or o 0) (get_or_past t.ends p None
+      | inl below_or_past ↦ omega (
+        arith,
+        at_last.ends p below_or_past
+            (end_before_last g order topological p below_or_past),
+        last_le g within,
+      )
+      | inr below_or_past ↦ let no_time : end_in t p ≡ 0 = ap (λ o. unwrap_or o 0) (get_or_past t.ends p None
           (omega (arith, ap length run.ends, length-map-range_with_len (end_by g s t) 0 (process_count g)))) in
           omega arith
     ];

@@ -35,19 +35,19 @@ and_none false = refl
 -- an item of an inactive process is inactive
 idle_item : (g : Graph) (values : List Bool) (i : Item) → active g values (producer_of_item g i) ≡ false →
     item_active g values i ≡ false
-idle_item g values (Start p) h = h
-idle_item g values (Message e) h =
-    ap (λ b. is_sent_item g (Message e) && (b && takes (edge_at g e).when (value_of g values (source g e)))) h
+idle_item g values (Start p) is_false = is_false
+idle_item g values (Message e) is_false =
+    ap (λ b. is_sent_item g (Message e) && (b && takes (edge_at g e).when (value_of g values (source g e)))) is_false
     ∙ and_none (is_sent_item g (Message e))
-idle_item g values (Broadcast c) h =
-    ap (λ b. is_sent_item g (Broadcast c) && b) h ∙ and_none (is_sent_item g (Broadcast c))
+idle_item g values (Broadcast c) is_false =
+    ap (λ b. is_sent_item g (Broadcast c) && b) is_false ∙ and_none (is_sent_item g (Broadcast c))
 
 -- an item that does not go over the bus is inactive, unless it is a start
 unsent_idle : (g : Graph) (values : List Bool) (i : Item) → is_sent_item g i ≡ false → ((p : ℕ) → i ≡ Start p → ⊥) →
     item_active g values i ≡ false
-unsent_idle g values (Start p) h other = absurd (other p refl)
-unsent_idle g values (Message e) h other = ap (λ b. b && live g values e) h
-unsent_idle g values (Broadcast c) h other = ap (λ b. b && active g values (process_of g c)) h
+unsent_idle g values (Start p) is_false other = absurd (other p refl)
+unsent_idle g values (Message e) is_false other = ap (λ b. b && live g values e) is_false
+unsent_idle g values (Broadcast c) is_false other = ap (λ b. b && active g values (process_of g c)) is_false
 
 -- whether an item is a start
 abbrev starts_one : Item → Bool
@@ -57,24 +57,24 @@ starts_one (Broadcast c) = false
 
 -- a message is no start
 message_start : (e q : ℕ) → Message e ≡ Start q → ⊥
-message_start e q h = true≢false (sym (ap starts_one h))
+message_start e q is = true≢false (sym (ap starts_one is))
 
 -- a broadcast is no start
 broadcast_start : (c q : ℕ) → Broadcast c ≡ Start q → ⊥
-broadcast_start c q h = true≢false (sym (ap starts_one h))
+broadcast_start c q is = true≢false (sym (ap starts_one is))
 
 -- given: the run of a scenario and the process at a place
 -- `topological`: the order has each process once, behind the sources of its inputs. `run`: t is the run of s under
 -- the frozen times. `at`: process p is at place i.
 module _ (g : Graph) (order : List ℕ) (topological : IsTopological g order) (frozen : List (Option ℕ)) (s : Scenario)
     (t : Times) (run : IsRun g order frozen s t)
-    (i p : ℕ) (l : p < process_count g) (at : place order p ≡ i) where
+    (i p : ℕ) (p_below : p < process_count g) (at : place order p ≡ i) where
   -- a process before the next place is before this one, or is the process here
   up_to : (q : ℕ) → q < process_count g → place order q < i + 1 → (place order q < i) ⊎ (q ≡ p)
-  up_to q k h = elim (cases_lt (place order q) i) [
+  up_to q below q_less = elim (cases_lt (place order q) i) [
     | inl less ↦ inl less
-    | inr more ↦ inr (same_place order q p (Contains-order (process_count g) order topological.all q k)
-        (Contains-order (process_count g) order topological.all p l) (omega arith))
+    | inr more ↦ inr (same_place order q p (Contains-order (process_count g) order topological.all q below)
+        (Contains-order (process_count g) order topological.all p p_below) (omega arith))
   ]
 
   -- ---- when nodes are ready
@@ -110,10 +110,10 @@ module _ (g : Graph) (order : List ℕ) (topological : IsTopological g order) (f
       | inr e ↦ omega (arith, heard.above c (m, subst (λ z. decides g s.values z c ≡ true) e d))
     ];
     least = λ b x y.
-        let a = ready.least b (λ q k sooner same a. x q k (omega arith) same a)
+        let ready_by = ready.least b (λ q k sooner same a. x q k (omega arith) same a)
         (λ q c k sooner same m d. y q c k (omega arith) same m d) in
-        let c = heard.least b (λ c d. y p c l (omega arith) refl d.0 d.1) in
-        least b (omega arith) (λ acts. x p l (omega arith) refl acts);
+        let heard_by = heard.least b (λ c d. y p c p_below (omega arith) refl d.0 d.1) in
+        least b (omega arith) (λ acts. x p p_below (omega arith) refl acts);
   }
 
   -- after an inactive process its node is ready once it was and has heard what decides the process
@@ -165,7 +165,8 @@ module _ (g : Graph) (order : List ℕ) (topological : IsTopological g order) (f
 
   -- each item of the queue of p is among the first ones, as many as the queue has
   in_whole : (y : ℕ) → Contains (queue_of g p) y → Contains (take (length (queue_of g p)) (queue_of g p)) y
-  in_whole y c = subst (λ ys. Contains ys y) (sym (take_all (length (queue_of g p)) (queue_of g p) (omega arith))) c
+  in_whole y among = subst (λ ys. Contains ys y)
+      (sym (take_all (length (queue_of g p)) (queue_of g p) (omega arith))) among
 
   -- the slots of p's node are free after all that p sends: what the node sends for processes before the next place is what it sends
   -- for earlier ones and the queue of p
@@ -198,7 +199,7 @@ module _ (g : Graph) (order : List ℕ) (topological : IsTopological g order) (f
 
   -- an inactive item has no time
   no_time : (x : ℕ) → x < item_count g → item_active g s.values (item_at g x) ≡ false → get_or t.times x None ≡ None
-  no_time x k idle = time_is g order frozen s t run x k ∙ cond-false _ _ _ idle
+  no_time x below idle = time_is g order frozen s t run x below ∙ cond-false _ _ _ idle
 
   -- after an inactive process what was known is all that is known before the next place: its items and its end have no times
   pub knows_idle : (known : Times) → active g s.values p ≡ false → Knows g order t i known →
@@ -233,11 +234,11 @@ module _ (g : Graph) (order : List ℕ) (topological : IsTopological g order) (f
       (sent : HasSent g order s t p (length (queue_of g p)) begun new free) (keeps : KeepsEnds begun new) where
     -- an item among these is one of the queue
     queued : (x : ℕ) → Contains (take (length (queue_of g p)) (queue_of g p)) x → Contains (queue_of g p) x
-    queued x c = Contains-take (length (queue_of g p)) (queue_of g p) x c
+    queued x among = Contains-take (length (queue_of g p)) (queue_of g p) x among
 
     -- the producer of a start is the process of the same number
     start_by : (x : ℕ) → x < process_count g → producer g x ≡ x
-    start_by x k = ap (producer_of_item g) (item_at-start g x k)
+    start_by x below = ap (producer_of_item g) (item_at-start g x below)
 
     -- the time of what is neither the start of p nor in its queue is as before
     as_before : (x : ℕ) → x ≢ p → (Contains (queue_of g p) x → ⊥) → get_or new.times x None ≡ get_or known.times x None
@@ -246,20 +247,21 @@ module _ (g : Graph) (order : List ℕ) (topological : IsTopological g order) (f
 
     -- the times of items of other processes are as before
     elsewhere : (x : ℕ) → (producer g x ≡ p → ⊥) → get_or new.times x None ≡ get_or known.times x None
-    elsewhere x other = as_before x (λ e. other (ap (producer g) e ∙ start_by p l)) (λ c. other (in_queue g p x c).by)
+    elsewhere x other = as_before x (λ e. other (ap (producer g) e ∙ start_by p p_below))
+        (λ c. other (in_queue g p x c).by)
 
     -- the start of p has its time of the run
     its_start : get_or new.times p None ≡ get_or t.times p None
     its_start = sent.others p (λ c. let q = in_queue g p p (queued p c) in absurd (omega (arith, q.above)))
         ∙ ap (λ ts. get_or ts p None) starts ∙ get_or-set_same known.times p (Some start) None (omega arith)
         ∙ ap Some start_is
-        ∙ sym (has_time g order frozen s t run p (omega arith) (start_acts g order frozen s t run p l acts))
+        ∙ sym (has_time g order frozen s t run p (omega arith) (start_acts g order frozen s t run p p_below acts))
 
     -- each item of p has its time of the run: its start is set, an item that is sent is set by the send, and one that stays on
     -- the node has no time
     its_item : (x : ℕ) → x < item_count g → producer g x ≡ p → get_or new.times x None ≡ get_or t.times x None
     its_item x k by = elim (cases_eq x p) [
-      | inl e ↦ subst (λ z. get_or new.times z None ≡ get_or t.times z None) (sym e) its_start
+      | inl equal ↦ subst (λ z. get_or new.times z None ≡ get_or t.times z None) (sym equal) its_start
       | inr other ↦ elim (cases_Bool (is_sent g x)) [
         | inl bus ↦ sent.sent x (in_whole x (queue-Contains g p x k bus by))
         | inr local ↦ as_before x other (λ c. true≢false (sym (in_queue g p x c).sent ∙ local))
@@ -271,17 +273,18 @@ module _ (g : Graph) (order : List ℕ) (topological : IsTopological g order) (f
       where
         -- the producer of an item that is a start is the process of the same number
         start_of : (x q : ℕ) → x < item_count g → item_at g x ≡ Start q → producer g x ≡ x
-        start_of x q k e = elim (item_cases g x k) [
-          | inl c ↦ ap (producer_of_item g) c.1
-          | inr (inl c) ↦ absurd (message_start c.0 q (sym c.3 ∙ e))
-          | inr (inr c) ↦ absurd (broadcast_start c.0 q (sym c.3 ∙ e))
+        start_of x q below is = elim (item_cases g x below) [
+          | inl of_start ↦ ap (producer_of_item g) of_start.1
+          | inr (inl of_message) ↦ absurd (message_start of_message.0 q (sym of_message.3 ∙ is))
+          | inr (inr of_broadcast) ↦ absurd (broadcast_start of_broadcast.0 q (sym of_broadcast.3 ∙ is))
         ]
 
     -- the end of p is that of the run
     its_end : get_or new.ends p None ≡ get_or t.ends p None
     its_end =
         ap (λ ts. get_or ts p None) (keeps.ends ∙ stops) ∙ get_or-set_same known.ends p (Some end) None (omega arith)
-        ∙ ap Some (end_is ∙ end_active g order frozen s t run p l acts) ∙ sym (has_end g order frozen s t run p l acts)
+        ∙ ap Some (end_is ∙ end_active g order frozen s t run p p_below acts)
+        ∙ sym (has_end g order frozen s t run p p_below acts)
 
     -- the ends of other processes are as before
     other_end : (q : ℕ) → q ≢ p → get_or new.ends q None ≡ get_or known.ends q None

@@ -51,13 +51,13 @@ use Rattle.cpg_run.proofs.Small.{run_small}
 columns_there : (rows : List Row) (a k : ℕ) → k < length rows →
     ((i : ℕ) → i < length rows → (get_or rows i no_row).item ≡ a + i) →
     columns_in rows (a + k) ≡ (get_or rows k no_row).columns
-columns_there [] a k l h = absurd (omega arith)
-columns_there (row ∷ rows) a zero l h = cond-true _ _ _ (eq-eqb row.item (a + 0) (h 0 (omega arith)))
-columns_there (row ∷ rows) a (suc k) l h =
-    let row_is : row.item ≡ a + 0 = h 0 (omega arith) in
-    cond-false _ _ _ (ne_eqb row.item (a + suc k) (λ e. omega (arith, row_is, e)))
-    ∙ ap (columns_in rows) (let e : a + suc k ≡ a + 1 + k = omega arith in e)
-    ∙ columns_there rows (a + 1) k (omega arith) (λ i m. h (suc i) (omega arith) ∙ omega arith)
+columns_there [] a k inside numbered = absurd (omega arith)
+columns_there (row ∷ rows) a zero inside numbered = cond-true _ _ _ (eq-eqb row.item (a + 0) (numbered 0 (omega arith)))
+columns_there (row ∷ rows) a (suc k) inside numbered =
+    let row_is : row.item ≡ a + 0 = numbered 0 (omega arith) in
+    cond-false _ _ _ (ne_eqb row.item (a + suc k) (λ sums. omega (arith, row_is, sums)))
+    ∙ ap (columns_in rows) (let sums : a + suc k ≡ a + 1 + k = omega arith in sums)
+    ∙ columns_there rows (a + 1) k (omega arith) (λ i i_inside. numbered (suc i) (omega arith) ∙ omega arith)
 
 -- an item that no row is of has no columns
 columns_nowhere : (rows : List Row) (x : ℕ) → ((i : ℕ) → i < length rows → (get_or rows i no_row).item ≢ x) →
@@ -73,7 +73,7 @@ one_table rows = record { faults = 0; first_broadcast = 0; own = []; starts = ro
 -- the columns at number x are those of the row at place x, and none beyond the rows
 columns_at : (rows : List Row) (x : ℕ) → row_at (columns_of_rows rows) x ≡ (row_for rows x).columns
 columns_at rows x = elim (cases_lt x (length rows)) [
-  | inl l ↦ get_or-map (λ (row : Row). row.columns) rows x no_row [] l
+  | inl less ↦ get_or-map (λ (row : Row). row.columns) rows x no_row [] less
   | inr past ↦
       get_or_past (columns_of_rows rows) x [] (omega (arith, past, length-map rows (λ (row : Row). row.columns)))
       ∙ sym (ap (λ (row : Row). row.columns) (get_or_past rows x no_row past))
@@ -98,8 +98,8 @@ module _ (g : Graph) (within : IsWithinLimits g) (urgency order : List ℕ) (adm
 
   -- the row at place x is that of the item x
   item_is : (x : ℕ) → x < item_count g → (row_for rows x).item ≡ x
-  item_is x l = sym (get_or-map (λ (row : Row). row.item) rows x no_row 0 (omega (arith, l, long)))
-      ∙ ap (λ xs. get_or xs x 0) is.items ∙ get_or-range_with_len 0 (item_count g) x 0 l ∙ omega arith
+  item_is x below = sym (get_or-map (λ (row : Row). row.item) rows x no_row 0 (omega (arith, below, long)))
+      ∙ ap (λ xs. get_or xs x 0) is.items ∙ get_or-range_with_len 0 (item_count g) x 0 below ∙ omega arith
 
   -- ---- tables with these rows
 
@@ -122,56 +122,58 @@ module _ (g : Graph) (within : IsWithinLimits g) (urgency order : List ℕ) (adm
   -- the columns of item x are those of its own row, since the row at place x is that of item x
   one_has : (x : ℕ) → columns_of (one_table rows) x ≡ (row_for rows x).columns
   one_has x = ap (λ rs. columns_in rs x) all_rows ∙ elim (cases_lt x (item_count g)) [
-    | inl l ↦ let place_0 : ℕ = 0 in ap (columns_in rows) (let e : x ≡ place_0 + x = omega arith in e) ∙
-        columns_there rows place_0 x (omega (arith, l, long)) (λ i m. item_is i (omega (arith, m, long)) ∙ omega arith)
-    | inr past ↦ columns_nowhere rows x (λ i m e. let own = item_is i (omega (arith, m, long)) in
-        absurd (omega (arith, m, long, own, e, past)))
+    | inl inside ↦ let place_0 : ℕ = 0 in ap (columns_in rows) (let e : x ≡ place_0 + x = omega arith in e) ∙
+        columns_there rows place_0 x (omega (arith, inside, long))
+        (λ i i_inside. item_is i (omega (arith, i_inside, long)) ∙ omega arith)
+    | inr past ↦ columns_nowhere rows x (λ i i_inside e. let own = item_is i (omega (arith, i_inside, long)) in
+        absurd (omega (arith, i_inside, long, own, e, past)))
         ∙ sym (ap (λ (row : Row). row.columns) (get_or_past rows x no_row (omega (arith, past, long))))
   ]
 
   -- a row has no more columns than its item's reach has views
   row_views : (r : Reach) → IsReach g order r → (x : ℕ) → x < item_count g →
       length (row_for rows x).columns ≤ views g (reach_of r x)
-  row_views r reached x l = subst (λ cs. length cs ≤ views g (reach_of r x)) (one_has x)
-      ((lawful (one_table rows) one_has r reached).views within.few_processes x l)
+  row_views r reached x below = subst (λ cs. length cs ≤ views g (reach_of r x)) (one_has x)
+      ((lawful (one_table rows) one_has r reached).views within.few_processes x below)
 
   -- the time of a column that matches a scenario is below 2 ^ 59, as it is a time of that scenario's run
   column_time : (x : ℕ) → x < item_count g → (c : Column) → Contains (row_at columns x) c → (s : Scenario) →
       IsScenario g s → matches c.cube s ≡ true → c.time < 2 ^ 59
-  column_time x l c k s lawful m =
-      let r = a_run g order frozen s admitted.topological in
+  column_time x below c in_row s lawful matched =
+      let found_run = a_run g order frozen s admitted.topological in
       let there = Contains-map (λ (d : Column). d.time) (filter (λ (d : Column). matches d.cube s) (row_at columns x)) c
-      (Contains-filter (λ (d : Column). matches d.cube s) (row_at columns x) c m k) in
-      let is_time : get_or r.0.times x None ≡ Some c.time = in_option (get_or r.0.times x None) c.time
-      (subst (λ ts. Contains ts c.time) ((is.found.each x l).times s r.0 lawful r.1) there) in
-      let small : AreSmall r.0 = run_small g order frozen s r.0 within admitted.topological lawful is.early r.1 in
+      (Contains-filter (λ (d : Column). matches d.cube s) (row_at columns x) c matched in_row) in
+      let is_time : get_or found_run.0.times x None ≡ Some c.time = in_option (get_or found_run.0.times x None) c.time
+      (subst (λ ts. Contains ts c.time) ((is.found.each x below).times s found_run.0 lawful found_run.1) there) in
+      let small : AreSmall found_run.0 = run_small g order frozen s found_run.0 within admitted.topological lawful
+      is.early found_run.1 in
       subst (λ o. unwrap_or o 0 < 2 ^ 59) is_time (small.times x)
 
   -- each column of a row can be written: it matches some scenario, so its time is small and no literal is empty; the rest the row
   -- has
   column_writable : (x : ℕ) → x < item_count g → (c : Column) → Contains (row_at columns x) c → IsWritable g c
-  column_writable x l c k =
-      let row : IsCarryingRow g urgency order frozen columns x = is.found.each x l in
+  column_writable x below c in_row =
+      let row : IsCarryingRow g urgency order frozen columns x = is.found.each x below in
       let least =
-      All-contains (λ (d : Column). (s : Scenario) × IsLeastMatch g urgency d s) (row_at columns x) c row.met k in
+      All-contains (λ (d : Column). (s : Scenario) × IsLeastMatch g urgency d s) (row_at columns x) c row.met in_row in
       record {
-        time = column_time x l c k least.0 least.1.lawful least.1.holds;
-        cube = All-contains (λ (d : Column). IsCube g d.cube) (row_at columns x) c row.cubes k;
-        some = λ i d h.
+        time = column_time x below c in_row least.0 least.1.lawful least.1.holds;
+        cube = All-contains (λ (d : Column). IsCube g d.cube) (row_at columns x) c row.cubes in_row;
+        some = λ i d inside.
             let m : Literal = get_or c.cube i d in
             let holds_there : holds least.0 m ≡ true =
-            from_all (holds least.0) c.cube m least.1.holds (Contains-get_or c.cube i d h) in
+            from_all (holds least.0) c.cube m least.1.holds (Contains-get_or c.cube i d inside) in
             omega (arith, holds-low least.0 m holds_there, holds-high least.0 m holds_there);
         within = All-contains (λ (d : Column). All (λ (m : Literal). m.high ≤ top g.faults m.variable) d.cube)
-            (row_at columns x) c row.within k;
+            (row_at columns x) c row.within in_row;
         not_whole = All-contains (λ (d : Column). All (λ (m : Literal). is_whole g.faults m ≡ false) d.cube)
-            (row_at columns x) c row.not_whole k;
+            (row_at columns x) c row.not_whole in_row;
       }
 
   -- so all columns of a row can be written
   row_writable : (x : ℕ) → x < item_count g → All (IsWritable g) (row_at columns x)
-  row_writable x l =
-      λ i d h. column_writable x l (get_or (row_at columns x) i d) (Contains-get_or (row_at columns x) i d h)
+  row_writable x below =
+      λ i d h. column_writable x below (get_or (row_at columns x) i d) (Contains-get_or (row_at columns x) i d h)
 
   -- what is no start and isn't sent is active in no scenario: a message or broadcast that isn't sent is never active
   never_active : (x : ℕ) → is_sent g x ≡ false → process_count g ≤ x → ItemCases g x → (s : Scenario) →
@@ -184,8 +186,9 @@ module _ (g : Graph) (within : IsWithinLimits g) (urgency order : List ℕ) (adm
 
   -- so the row of a message or broadcast that isn't sent is empty
   unsent_row : (x : ℕ) → process_count g ≤ x → x < item_count g → is_sent g x ≡ false → (row_for rows x).columns ≡ []
-  unsent_row x later l unsent = sym (columns_at rows x) ∙ never_columns g urgency order frozen timed columns is.found x
-      (λ s lawful. never_active x unsent later (item_cases g x l) s)
+  unsent_row x later below unsent = sym (columns_at rows x)
+      ∙ never_columns g urgency order frozen timed columns is.found x
+      (λ s lawful. never_active x unsent later (item_cases g x below) s)
 
   -- an item that has no row at any node is no start and isn't sent: by its kind, a start has a row, and a message or broadcast
   -- that is sent has at least one
@@ -200,8 +203,8 @@ module _ (g : Graph) (within : IsWithinLimits g) (urgency order : List ℕ) (adm
     where
       -- a message that is sent has two rows, so one without a row isn't
       message_rowless : (b : Bool) → cond b 2 0 ≤ 0 → b ≡ false
-      message_rowless true h = absurd (omega arith)
-      message_rowless false h = refl
+      message_rowless true at_most = absurd (omega arith)
+      message_rowless false at_most = refl
   rowless x (inr (inr c)) none = (
     omega (arith, c.2),
     ap (is_sent_item g) c.3
@@ -212,9 +215,15 @@ module _ (g : Graph) (within : IsWithinLimits g) (urgency order : List ℕ) (adm
       broadcast_rowless : (1 < length g.nodes) ⊎ (length g.nodes ≤ 1) →
           cond (nat_lt 1 (length g.nodes)) (length g.nodes) 0 ≤ 0 →
           nat_lt 1 (length g.nodes) ≡ false
-      broadcast_rowless (inl l) h = absurd
-          (omega (arith, l, h, cond-true (nat_lt 1 (length g.nodes)) (length g.nodes) 0 (lt-ltb 1 (length g.nodes) l)))
-      broadcast_rowless (inr l) h = le-ltb 1 (length g.nodes) l
+      broadcast_rowless (inl l) at_most = absurd
+          (omega (
+            arith,
+            l,
+            at_most,
+            cond-true (nat_lt 1 (length g.nodes))
+                (length g.nodes) 0 (lt-ltb 1 (length g.nodes) l),
+          ))
+      broadcast_rowless (inr l) at_most = le-ltb 1 (length g.nodes) l
 
   -- ---- how many columns there are
 
@@ -247,7 +256,7 @@ module _ (g : Graph) (within : IsWithinLimits g) (urgency order : List ℕ) (adm
 
     -- but no item is too wide, by the hypothesis
     not_wide : (x : ℕ) → x < item_count g → is_too_wide g reach x ≡ true → ⊥
-    not_wide x l wide = both_ways (is_too_wide g reach x) (narrow reach reached x l) wide
+    not_wide x below wide = both_ways (is_too_wide g reach x) (narrow reach reached x below) wide
 
     -- an item that has no row has no load
     no_load : (x : ℕ) → rows_of_item g (item_at g x) ≡ 0 → load g reach x ≡ 0
@@ -256,13 +265,14 @@ module _ (g : Graph) (within : IsWithinLimits g) (urgency order : List ℕ) (adm
     -- the first n items ask for at most the most columns together: by induction on n, the first item that went beyond would be too
     -- wide
     loads_few : (n : ℕ) → n ≤ item_count g → sum_by (load g reach) (numbers_below n) ≤ most_loads
-    loads_few zero l = omega arith
-    loads_few (suc n) l =
+    loads_few zero n_within = omega arith
+    loads_few (suc n) n_within =
         let more : sum_by (load g reach) (numbers_below (n + 1))
         ≡ sum_by (load g reach) (numbers_below n) + load g reach n = ap (sum_by (load g reach)) (below_push n) ∙
         sum_by_push (load g reach) (numbers_below n) n in
         let few_so_far = loads_few n (omega arith) in
-        subst (λ m. sum_by (load g reach) (numbers_below m) ≤ most_loads) (let e : n + 1 ≡ suc n = omega arith in e)
+        subst (λ m. sum_by (load g reach) (numbers_below m) ≤ most_loads)
+        (let sums : n + 1 ≡ suc n = omega arith in sums)
         (elim (cases_lt 0 (rows_of_item g (item_at g n))) [
           | inr none ↦ omega (arith, more, few_so_far, no_load n (omega (arith, none)))
           | inl some ↦ elim (cases_lt most_loads (sum_by (load g reach) (numbers_below (n + 1)))) [
@@ -273,13 +283,13 @@ module _ (g : Graph) (within : IsWithinLimits g) (urgency order : List ℕ) (adm
 
     -- each row has few enough columns: no more than views, if the item has rows, and none otherwise
     row_few : (x : ℕ) → x < item_count g → length (row_for rows x).columns ≤ MOST_COLUMNS
-    row_few x l = elim (cases_lt 0 (rows_of_item g (item_at g x))) [
+    row_few x below = elim (cases_lt 0 (rows_of_item g (item_at g x))) [
       | inl some ↦ elim (cases_lt most_views (views g (reach_of reach x))) [
-        | inl many ↦ absurd (not_wide x l (wide_by_views x some many))
-        | inr few ↦ omega (arith, row_views reach reached x l, few)
+        | inl many ↦ absurd (not_wide x below (wide_by_views x some many))
+        | inr few ↦ omega (arith, row_views reach reached x below, few)
       ]
-      | inr none ↦ let none_here = rowless x (item_cases g x l) none in
-          omega (arith, ap length (unsent_row x none_here.0 l none_here.1))
+      | inr none ↦ let none_here = rowless x (item_cases g x below) none in
+          omega (arith, ap length (unsent_row x none_here.0 below none_here.1))
     ]
 
     -- all rows of all tables together have few enough columns, as each item has at most its load
@@ -290,8 +300,8 @@ module _ (g : Graph) (within : IsWithinLimits g) (urgency order : List ℕ) (adm
       loads_few (item_count g) (omega arith),
       sum_by-le_each (λ x. length (row_for rows x).columns * rows_of_item g (item_at g x)) (load g reach)
           (numbers_below (item_count g))
-          (λ x c. mul-le-mul (row_views reach reached x (numbers-Contains (item_count g) x c))
-          (let e : rows_of_item g (item_at g x) ≤ rows_of_item g (item_at g x) = omega arith in e)),
+          (λ x among. mul-le-mul (row_views reach reached x (numbers-Contains (item_count g) x among))
+          (let same_count : rows_of_item g (item_at g x) ≤ rows_of_item g (item_at g x) = omega arith in same_count)),
     )
 
     -- the rows are within the limits of a row and of all rows

@@ -19,7 +19,8 @@ module _ (g : Graph) where
   pub zero_first : (order : List ℕ) (s : Scenario) → is_before g order s (zero_scenario g) ≡ false
   zero_first order s = not_before_by_parts g (zero_scenario g) s order
       (λ p. omega (arith, same_all {X = ℕ} (process_count g) p 0))
-      (λ p c e. let f = ap number_of_value (same_all {X = Bool} (condition_count g) c false) in omega (arith, f))
+      (λ p c e. let no_value = ap number_of_value (same_all {X = Bool} (condition_count g) c false) in
+      omega (arith, no_value))
     where
       -- each element of a list of equal ones is the one, and so is the default past its end
       same_all : {X : Type 0} (n i : ℕ) (a : X) → get_or (replicate n a) i a ≡ a

@@ -48,7 +48,9 @@ pub record IsCarryingRow (g : Graph) (urgency order : List ℕ) (frozen : List (
 -- a row for each item; in the row of a start no two columns can be merged further
 pub record AreCarrying (g : Graph) (urgency order : List ℕ) (frozen : List (Option ℕ))
     (rows : List (List Column)) : Type 0 where
+  -- there is a row for each item
   pub count : length rows ≡ item_count g
+  -- each says no more than what is carried
   pub each : (x : ℕ) → x < item_count g → IsCarryingRow g urgency order frozen rows x
   -- the start of a process has the number of the process
   pub merged : (p : ℕ) → p < process_count g → IsMerged g (row_at rows p)

@@ -23,6 +23,7 @@ columns_of_rows rows = map (λ (r : Row). r.columns) rows
 
 -- the frozen times of the graph, and a row for each item
 pub record AreRowsFound (g : Graph) (urgency order : List ℕ) (frozen : List (Option ℕ)) (rows : List Row) : Type 0 where
+  -- the frozen times are those of the graph
   pub frozen_times : AreFrozenTimes g order frozen
   -- each frozen time is below 2 ^ 58, so that sums of times don't overflow
   pub early : AreEarly frozen

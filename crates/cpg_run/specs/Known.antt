@@ -11,7 +11,7 @@ AreEarly frozen = (x time : ℕ) → get_or frozen x None ≡ Some time → time
 abbrev pub frozen_in : List (Option ℕ) → ℕ → ℕ
 frozen_in frozen x = unwrap_or (get_or frozen x None) 0
 
--- each time and end is below 2 ^ 59
+-- each time and each end of a run is below 2 ^ 59
 pub record AreSmall (t : Times) : Type 0 where
   pub times : (x : ℕ) → time_in t x < 2 ^ 59
   pub ends : (p : ℕ) → end_in t p < 2 ^ 59

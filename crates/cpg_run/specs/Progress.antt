@@ -106,13 +106,16 @@ pub record HasSent (g : Graph) (order : List ℕ) (s : Scenario) (t : Times) (p 
   -- the first k have their times of the run
   pub sent : (x : ℕ) → Contains (take k (queue_of g p)) x → get_or known_new.times x None ≡ get_or t.times x None
   -- every other item is as before
-  pub others : (x : ℕ) → (Contains (take k (queue_of g p)) x → ⊥) → get_or known_new.times x None ≡ get_or known_old.times x None
+  pub others : (x : ℕ) → (Contains (take k (queue_of g p)) x → ⊥) →
+      get_or known_new.times x None ≡ get_or known_old.times x None
   -- `free` is when the slots of the node are free after them
   pub slots_free : IsMost (IsSentBy g order s p k) (free_after g t) free
 
 -- sending changes no end, and adds no place for a time
 pub record KeepsEnds (known_old known_new : Times) : Type 0 where
+  -- there are as many places for times as before
   pub times : length known_new.times ≡ length known_old.times
+  -- the ends are the same
   pub ends : known_new.ends ≡ known_old.ends
 
 -- What is found of a run: its times so far and, for each node, when it is ready and when its slots are free. A node that
@@ -125,7 +128,7 @@ pub record ProgressState : Type 0 where
   -- for each node from when its slots are free
   pub free : List ℕ
 
--- `p` is what is found of the scenario's run before the place i
+-- `p` is what is found of the scenario's run under these frozen times before the place i of the order
 pub record IsAlong (g : Graph) (order : List ℕ) (frozen : List (Option ℕ)) (s : Scenario) (i : ℕ)
     (p : ProgressState) : Type 0 where
   -- the lists have a place for each item, process and node

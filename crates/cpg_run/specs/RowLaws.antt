@@ -18,7 +18,9 @@ use Rattle.cpg_run.specs.Rows.{AreEntriesOf, AreRows}
 
 -- an admitted graph, its urgency order, an order of its processes, and the frozen times under that order
 pub record IsTimed (g : Graph) (urgency order : List ℕ) (frozen : List (Option ℕ)) : Type 0 where
+  -- the graph is admitted, with these two orders
   pub admitted : Admitted g urgency order
+  -- the frozen times are those of the graph under the order
   pub frozen_times : AreFrozenTimes g order frozen
 
 -- in every scenario the columns that match have just the time of the item x in the run, and none matches if it has none
@@ -37,7 +39,9 @@ SameRowsBefore g order bound rows others = (y : ℕ) → IsEarlier g order bound
 -- the rows of the items from processes at places below the bound have cubes of the graph, and the times of the runs
 pub record AreRowsBefore (g : Graph) (order : List ℕ) (frozen : List (Option ℕ)) (bound : ℕ)
     (rows : List (List Column)) : Type 0 where
+  -- each of these rows has cubes of the graph
   pub cubes : (y : ℕ) → IsEarlier g order bound y → All (λ c. IsCube g c.cube) (row_at rows y)
+  -- each of these rows has the times of the runs
   pub times : (y : ℕ) → IsEarlier g order bound y → HaveTimesOf g order frozen y (row_at rows y)
 
 -- the rows of the items from processes before the producer of x have cubes of the graph, and the times of the runs
@@ -47,9 +51,12 @@ AreRowsFor g order frozen x rows = AreRowsBefore g order frozen (place order (pr
 -- the item x is active in the scenario u too, with the same time as in s, and the same is carried there
 pub record IsSameIn (g : Graph) (order : List ℕ) (frozen : List (Option ℕ)) (rows : List (List Column)) (x : ℕ)
     (s u : Scenario) : Type 0 where
+  -- the item is active in u
   pub active : IsTrue (item_active g u.values (item_at g x))
+  -- it has the same time in the runs t of s and w of u
   pub time : (t w : Times) → IsRun g order frozen s t → IsRun g order frozen u w →
       get_or t.times x None ≡ get_or w.times x None
+  -- the same is carried beside its time in both
   pub carried : carried g order rows u x ≡ carried g order rows s x
 
 -- what is carried beside a time is found in the rows of items from earlier processes alone

@@ -29,8 +29,10 @@ pub record IsCubeOf (k : ℕ) (literals cube : List Literal) : Type 0 where
 -- carried beside it
 pub record IsEntryIn (g : Graph) (order : List ℕ) (frozen : List (Option ℕ)) (rows : List (List Column)) (x : ℕ)
     (s : Scenario) (e : Column) : Type 0 where
+  -- s is a scenario of the graph, in which x is active
   pub lawful : IsScenario g s
   pub active : IsTrue (item_active g s.values (item_at g x))
+  -- the entry has the time of x in the run of s, and the cube of what is carried beside it
   pub time : (t : Times) → IsRun g order frozen s t → get_or t.times x None ≡ Some e.time
   pub cube : IsCubeOf g.faults (carried g order rows s x) e.cube
 
@@ -49,12 +51,17 @@ pub record AreEntriesOf (g : Graph) (order : List ℕ) (frozen : List (Option �
 -- the row of the item x: its entries, merged
 pub record IsRowOf (g : Graph) (urgency order : List ℕ) (frozen : List (Option ℕ)) (rows : List (List Column))
     (x : ℕ) : Type 0 where
+  -- the entries of x
   pub entries : List Column
+  -- these are the entries of the item
   pub are : AreEntriesOf g order frozen rows x entries
+  -- the row is made of them by merging
   pub merge : IsMergeOf g urgency entries (row_at rows x)
 
 -- a row for each item; what is carried beside its times is found in the rows of items from earlier processes
 pub record AreRows (g : Graph) (urgency order : List ℕ) (frozen : List (Option ℕ))
     (rows : List (List Column)) : Type 0 where
+  -- there is a row for each item
   pub count : length rows ≡ item_count g
+  -- each is the row of its item
   pub each : (x : ℕ) → x < item_count g → IsRowOf g urgency order frozen rows x

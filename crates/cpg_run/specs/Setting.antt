@@ -14,8 +14,11 @@ use Rattle.cpg_run.specs.declared.stepping.Nodes.{Nodes}
 
 -- the graph is admitted, the order is topological, and the plan is that of the graph
 pub record IsSetting (setting : Setting) : Type 0 where
+  -- the graph is admitted, with these guards
   pub admitted : AreAdmitted setting.problem.now setting.guards.now
+  -- the order is topological
   pub topological : IsTopological setting.problem.now setting.order.now
+  -- the plan is that of the graph
   pub plan : setting.plan.now ≡ plan_of setting.problem.now
 
 -- `t` is the run of the scenario under the setting's order

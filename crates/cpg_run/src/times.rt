@@ -1,5 +1,6 @@
 //! The times of a run.
 ghost use Rattle.std.specs.Prelude.{◌≡◌, IfOk, None, get_or};
+ghost use Rattle.cpg_run.specs.Latest.{later};
 
 use cpg_base::OutOfMemory;
 use std::marker::Model;
@@ -71,5 +72,18 @@ impl RunTimes {
             ends: self.ends.clone()?,
             finish: self.finish,
         })
+    }
+}
+
+/// Returns the later of two times, the one that there is if there is only one, and `None` if there is none.
+pub fn later(one: Option<u64>, other: Option<u64>) -> Option<u64>
+    ensures { result ≡ later one other }
+{
+    let Some(time) = one else {
+        return other;
+    };
+    match other {
+        Some(other_time) => Some(time.max(other_time)),
+        None => Some(time),
     }
 }

@@ -24,16 +24,17 @@ use Rattle.cpg_scenario.proofs.Filling.{all_pass, one_fails, over_budget}
 -- a scenario with these values and faults is the record of them
 pub scenario_is : (s : Scenario) (values : List Bool) (faults : List ℕ) → s.values ≡ values → s.faults ≡ faults →
     s ≡ record { values = values; faults = faults }
-scenario_is s values faults e k =
-    ap₂ (λ (v : List Bool) (f : List ℕ). let t : Scenario = record { values = v; faults = f } in t) e k
+scenario_is s values faults same_values same_faults =
+    ap₂ (λ (v : List Bool) (f : List ℕ). let t : Scenario = record { values = v; faults = f } in t)
+    same_values same_faults
 
 -- a length that passes its test, or `longest` if none is given, is from 1 to `longest`
 given_within : (longest : ℕ) (given : Option ℤ) → 1 ≤ longest → is_length_if longest given ≡ true →
     (1 ≤ length_or longest given) × (length_or longest given ≤ longest)
-given_within longest None l t = (l, omega arith)
-given_within longest (Some (pos n)) l t = let parts = and_parts (nat_le 1 n) (nat_le n longest) t in
+given_within longest None at_most is_true = (at_most, omega arith)
+given_within longest (Some (pos n)) at_most is_true = let parts = and_parts (nat_le 1 n) (nat_le n longest) is_true in
     (leb-true 1 n parts.0, leb-true n longest parts.1)
-given_within longest (Some (negsuc n)) l t = absurd (true≢false (sym t))
+given_within longest (Some (negsuc n)) at_most is_true = absurd (true≢false (sym is_true))
 
 -- given: the members of a scenario that is read for a graph
 module _ (g : Graph) (ms : Members) where
@@ -43,11 +44,11 @@ module _ (g : Graph) (ms : Members) where
       left + sum_by (count_of g ms) (numbers_below n) ≡ g.faults →
       (is_natural given ≡ false) ⊎
       (left < natural given) → keeps_budget g ms ≡ false
-  budget_broken n left given l e total cause = ⊎_elim
+  budget_broken n left given below is total cause = ⊎_elim
       (λ (k : is_natural given ≡ false). and_left _ _
-      (one_fails (λ p. is_natural (count_given g ms p)) (process_count g) n l (ap is_natural (sym e) ∙ k)))
+      (one_fails (λ p. is_natural (count_given g ms p)) (process_count g) n below (ap is_natural (sym is) ∙ k)))
       (λ (k : left < natural given). and_right _ _ (over_budget (count_of g ms)
-      (process_count g) n g.faults left l total (let same = ap natural e in omega arith)))
+      (process_count g) n g.faults left below total (let same = ap natural is in omega arith)))
       cause
 
   -- if no count is below 0, and all together are within the budget, the test of the counts passes
@@ -80,7 +81,7 @@ module _ (g : Graph) (ms : Members) where
 
   -- a duration is at least 1, as the wcet is
   takes_time : IsWithinLimits g → (p f : ℕ) → p < process_count g → 1 ≤ duration g p f
-  takes_time within p f l = let at : IsProcessWithin _ (process_at g p) = within.processes p _ l in
+  takes_time within p f below = let at : IsProcessWithin _ (process_at g p) = within.processes p _ below in
       omega (arith, at.works)
 
   -- If the lengths of the document pass their test, the length of process q is at least 1, and at most the duration
@@ -88,17 +89,18 @@ module _ (g : Graph) (ms : Members) where
   within_length : keeps_lengths g ms ≡ true → IsWithinLimits g → (q : ℕ) → q < process_count g →
       (1 ≤ get_or (lengths_of g ms) q 0) ×
       (get_or (lengths_of g ms) q 0 ≤ duration g q (fault_of (scenario_of g ms) q))
-  within_length kept within q l =
+  within_length kept within q below =
       let is = get_or-map-below (λ p. length_or (duration g p (count_of g ms p)) (length_given g ms p))
-      (process_count g) q 0 l in
-      let few = ap (duration g q) (get_or-map-below (count_of g ms) (process_count g) q 0 l) in
-      let w =
-      given_within (duration g q (count_of g ms q)) (length_given g ms q) (takes_time within q (count_of g ms q) l)
+      (process_count g) q 0 below in
+      let few = ap (duration g q) (get_or-map-below (count_of g ms) (process_count g) q 0 below) in
+      let within_duration =
+      given_within (duration g q (count_of g ms q)) (length_given g ms q) (takes_time within q (count_of g ms q) below)
       (from_all (λ p. is_length_if (duration g p (count_of g ms p)) (length_given g ms p))
-      (numbers_below (process_count g)) q kept (Contains-numbers (process_count g) q l)) in (
-        subst (λ n. 1 ≤ n) (sym is) w.0,
+      (numbers_below (process_count g)) q kept (Contains-numbers (process_count g) q below)) in (
+        subst (λ n. 1 ≤ n) (sym is) within_duration.0,
         subst (λ n. n ≤ duration g q (fault_of (scenario_of g ms) q)) (sym is)
-            (subst (λ n. length_or (duration g q (count_of g ms q)) (length_given g ms q) ≤ n) (sym few) w.1),
+            (subst (λ n. length_or (duration g q (count_of g ms q)) (length_given g ms q) ≤ n)
+            (sym few) within_duration.1),
       )
 
   -- if the counts and the lengths pass their tests, the document's scenario and lengths can be played
@@ -106,11 +108,12 @@ module _ (g : Graph) (ms : Members) where
       (s : Scenario) (ls : List ℕ) → s ≡ scenario_of g ms →
       ls ≡ lengths_of g ms →
       IsPlayed g (record { scenario = s; lengths = ls })
-  is_played within budget kept s ls e k =
+  is_played within budget kept s ls same_scenario same_lengths =
       let made : IsPlayed g (record { scenario = scenario_of g ms; lengths = lengths_of g ms }) = record {
         scenario = is_scenario budget;
         count = length-map _ _ ∙ length-range_with_len 0 (process_count g);
         lengths = within_length kept within;
       } in
       subst (λ (p : Played). IsPlayed g p) (sym
-      (ap₂ (λ (t : Scenario) (l : List ℕ). let p : Played = record { scenario = t; lengths = l } in p) e k)) made
+      (ap₂ (λ (t : Scenario) (l : List ℕ). let p : Played = record { scenario = t; lengths = l } in p)
+      same_scenario same_lengths)) made

@@ -86,13 +86,13 @@ module _ (p : ℕ → Bool) (n : ℕ) where
     where
       -- if the negation of b is true, b is false
       off : (b : Bool) → not b ≡ true → b ≡ false
-      off true e = absurd (true≢false (sym e))
-      off false e = refl
+      off true is_true = absurd (true≢false (sym is_true))
+      off false is_true = refl
 
       -- if the negation of b is false, b is true
       on : (b : Bool) → not b ≡ false → b ≡ true
-      on true e = refl
-      on false e = absurd (true≢false e)
+      on true is_false = refl
+      on false is_false = absurd (true≢false is_false)
 
 -- ---- tables
 
@@ -115,11 +115,11 @@ module _ (Fact : List ℕ → Data → Type 0) where
 -- the test that a key is among some keys fails exactly if it isn't
 among : (key : List ℕ) (keys : List (List ℕ)) → Fails (list_any (bytes_eq key) keys) (Contains keys key → ⊥)
 among key keys = (
-  λ e c. both_ways (list_any (bytes_eq key) keys) e
-      (list_any_true (bytes_eq key) keys key c ((bytes_eq-Decides key key).1 refl)),
+  λ e is_among. both_ways (list_any (bytes_eq key) keys) e
+      (list_any_true (bytes_eq key) keys key is_among ((bytes_eq-Decides key key).1 refl)),
   λ none. false_from_ne_true (list_any (bytes_eq key) keys) (λ t.
-      let r = list_any_parts (bytes_eq key) keys t in
-      none (subst (Contains keys) (sym ((bytes_eq-Decides key r.0).0 r.2)) r.1)),
+      let equal_key = list_any_parts (bytes_eq key) keys t in
+      none (subst (Contains keys) (sym ((bytes_eq-Decides key equal_key.0).0 equal_key.2)) equal_key.1)),
 )
 
 -- the test that all keys of a table are among some keys fails exactly if the table has another key
@@ -171,16 +171,22 @@ module _ (g : Graph) (ms : Members) where
   bad_value : (p : ℕ) → p < process_count g → (given : Option Bool) → value_given g ms p ≡ given → (c : Option ℕ) →
       condition_of g p ≡ c → (not (is_some given) || is_some c) ≡ false →
       HasBadValue g ms
-  bad_value p l None e c k f = absurd (true≢false f)
-  bad_value p l (Some b) e None k f = record { process = p; within = l; value = b; given = e; none = k }
-  bad_value p l (Some b) e (Some c) k f = absurd (true≢false f)
+  bad_value p below None p_is c k is_false = absurd (true≢false is_false)
+  bad_value p below (Some b) p_is None k is_false = record {
+    process = p;
+    within = below;
+    value = b;
+    given = p_is;
+    none = k;
+  }
+  bad_value p below (Some b) p_is (Some c) k is_false = absurd (true≢false is_false)
 
   -- the test that values are of conditions fails exactly if one isn't
   conditions_fail : Fails (has_conditions g ms) (HasBadValue g ms)
   conditions_fail = (
-    λ e. let r = some_fails (may_have_value g ms) (process_count g) e in
-        bad_value r.0 r.1 (value_given g ms r.0) refl (condition_of g r.0) refl r.2,
-    λ h. one_fails (may_have_value g ms) (process_count g) h.process h.within (rw (h.given, h.none) refl),
+    λ e. let bad_one = some_fails (may_have_value g ms) (process_count g) e in
+        bad_value bad_one.0 bad_one.1 (value_given g ms bad_one.0) refl (condition_of g bad_one.0) refl bad_one.2,
+    λ bad. one_fails (may_have_value g ms) (process_count g) bad.process bad.within (rw (bad.given, bad.none) refl),
   )
 
   -- the test for a natural number fails exactly if it is negative
@@ -192,18 +198,22 @@ module _ (g : Graph) (ms : Members) where
   counts_fail : Fails (list_all (λ p. is_natural (count_given g ms p)) (numbers_below (process_count g)))
       (HasNegativeCount g ms)
   counts_fail = (
-    λ e. let r = some_fails (λ p. is_natural (count_given g ms p)) (process_count g) e in
-        record { process = r.0; within = r.1; negative = (negative (count_given g ms r.0)).0 r.2 },
-    λ h. one_fails (λ p. is_natural (count_given g ms p)) (process_count g) h.process h.within
-        ((negative (count_given g ms h.process)).1 h.negative),
+    λ e. let bad_one = some_fails (λ p. is_natural (count_given g ms p)) (process_count g) e in
+        record {
+          process = bad_one.0;
+          within = bad_one.1;
+          negative = (negative (count_given g ms bad_one.0)).0 bad_one.2;
+        },
+    λ bad. one_fails (λ p. is_natural (count_given g ms p)) (process_count g) bad.process bad.within
+        ((negative (count_given g ms bad.process)).1 bad.negative),
   )
 
   -- the test for `at most` fails exactly if the number is greater
   above : (n m : ℕ) → Fails (nat_le n m) (m < n)
   above n m = (
     λ e. elim (cases_Bool (nat_le n m)) [
-      | inl t ↦ absurd (both_ways (nat_le n m) e t)
-      | inr f ↦ leb-false n m f
+      | inl is_true ↦ absurd (both_ways (nat_le n m) e is_true)
+      | inr is_false ↦ leb-false n m is_false
     ],
     λ l. lt-leb n m l,
   )
@@ -221,21 +231,21 @@ module _ (g : Graph) (ms : Members) where
   bad_length : (p : ℕ) → p < process_count g → (given : Option ℤ) → length_given g ms p ≡ given →
       is_length_if (duration g p (count_of g ms p)) given ≡ false →
       HasBadLength g ms
-  bad_length p l None e f = absurd (true≢false f)
-  bad_length p l (Some z) e f = record {
+  bad_length p below None is is_false = absurd (true≢false is_false)
+  bad_length p below (Some z) is is_false = record {
     process = p;
-    within = l;
+    within = below;
     length = z;
-    given = e;
-    bad = (no_length (duration g p (count_of g ms p)) z).0 f;
+    given = is;
+    bad = (no_length (duration g p (count_of g ms p)) z).0 is_false;
   }
 
   -- the test of all lengths fails exactly if there is a bad one
   lengths_fail : Fails (keeps_lengths g ms) (HasBadLength g ms)
   lengths_fail = (
-    λ e. let r =
+    λ e. let bad_one =
         some_fails (λ p. is_length_if (duration g p (count_of g ms p)) (length_given g ms p)) (process_count g) e in
-        bad_length r.0 r.1 (length_given g ms r.0) refl r.2,
+        bad_length bad_one.0 bad_one.1 (length_given g ms bad_one.0) refl bad_one.2,
     λ h. one_fails (λ p. is_length_if (duration g p (count_of g ms p)) (length_given g ms p))
         (process_count g) h.process h.within
         (ap (is_length_if (duration g h.process (count_of g ms h.process))) h.given
@@ -273,15 +283,15 @@ few Length = omega arith
 
 -- causes with the same rank are equal
 same_place : (c e : Cause) → rank_of_cause c ≡ rank_of_cause e → c ≡ e
-same_place c e k = sym (at_place c) ∙ ap cause_at k ∙ at_place e
+same_place c e is = sym (at_place c) ∙ ap cause_at is ∙ at_place e
 
 -- equal rejections have equal causes
 same_bad : (c e : Cause) → (let r : Reading = Err (Bad c) in r) ≡ Err (Bad e) → c ≡ e
-same_bad c e k = cc
+same_bad c e is = cc
 
 -- a reading isn't both rejected and played
 bad_well : {P : Type 0} (c : Cause) (p : Played) → (let r : Reading = Err (Bad c) in r) ≡ Ok p → P
-bad_well c p k = cc
+bad_well c p is = cc
 
 -- these are the causes at the places from n on, in order, up to the last
 abbrev Rise : ℕ → List Cause → Type 0
@@ -327,22 +337,25 @@ module _ (test : Cause → Bool) (played : Played) where
   -- pass.
   told_first : (cs : List Cause) (n : ℕ) → Rise n cs → Pass n → (cause : Cause) → told cs ≡ Err (Bad cause) →
       IsFirstFailure cause
-  told_first [] n rise before cause e = cc
-  told_first (c ∷ cs) n rise before cause e = elim (cases_Bool (test c)) [
-    | inl pass ↦ told_first cs (suc n) rise.1 (pass_next n c rise.0 before pass) cause (sym (goes_on c cs pass) ∙ e)
+  told_first [] n rise before cause returned = cc
+  told_first (c ∷ cs) n rise before cause returned = elim (cases_Bool (test c)) [
+    | inl pass ↦ told_first cs (suc n) rise.1 (pass_next n c rise.0 before pass) cause
+        (sym (goes_on c cs pass) ∙ returned)
     | inr fail ↦
-        subst IsFirstFailure (same_bad c cause (sym (stops c cs fail) ∙ e)) (fail, subst Pass (sym rise.0) before)
+        subst IsFirstFailure (same_bad c cause (sym (stops c cs fail) ∙ returned))
+        (fail, subst Pass (sym rise.0) before)
   ]
 
   -- The first cause whose test fails is returned. By induction on the causes from n on: this cause, or one after it.
   first_told : (cs : List Cause) (n : ℕ) → Rise n cs → (cause : Cause) → n ≤ rank_of_cause cause →
       IsFirstFailure cause →
       told cs ≡ Err (Bad cause)
-  first_told [] n rise cause l first = let f = few cause in absurd (omega (arith, f, l, rise))
-  first_told (c ∷ cs) n rise cause l first = elim (cases_lt n (rank_of_cause cause)) [
+  first_told [] n rise cause from_n first =
+      let few_causes = few cause in absurd (omega (arith, few_causes, from_n, rise))
+  first_told (c ∷ cs) n rise cause from_n first = elim (cases_lt n (rank_of_cause cause)) [
     | inl lt ↦ let at = rise.0 in
         goes_on c cs (first.1 c (omega (arith, at, lt))) ∙ first_told cs (suc n) rise.1 cause lt first
-    | inr ge ↦ let at = rise.0 in let same : rank_of_cause cause ≡ rank_of_cause c = omega (arith, at, l, ge) in
+    | inr ge ↦ let at = rise.0 in let same : rank_of_cause cause ≡ rank_of_cause c = omega (arith, at, from_n, ge) in
         let is = same_place cause c same in
         stops c cs (subst (λ x. test x ≡ false) is first.0) ∙ ap (λ x. Err (Bad x)) (sym is)
   ]
@@ -355,10 +368,11 @@ module _ (test : Cause → Bool) (played : Played) where
   -- if a scenario is returned, all tests pass; by induction on the causes from n on, as those before n pass
   well_told : (cs : List Cause) (n : ℕ) → Rise n cs → Pass n → (p : Played) → told cs ≡ Ok p → (c : Cause) →
       test c ≡ true
-  well_told [] n rise before p e c = before c (let f = few c in omega (arith, f, rise))
-  well_told (c ∷ cs) n rise before p e other = elim (cases_Bool (test c)) [
-    | inl pass ↦ well_told cs (suc n) rise.1 (pass_next n c rise.0 before pass) p (sym (goes_on c cs pass) ∙ e) other
-    | inr fail ↦ bad_well c p (sym (stops c cs fail) ∙ e)
+  well_told [] n rise before p returned c = before c (let few_causes = few c in omega (arith, few_causes, rise))
+  well_told (c ∷ cs) n rise before p returned other = elim (cases_Bool (test c)) [
+    | inl pass ↦ well_told cs (suc n) rise.1 (pass_next n c rise.0 before pass) p
+        (sym (goes_on c cs pass) ∙ returned) other
+    | inr fail ↦ bad_well c p (sym (stops c cs fail) ∙ returned)
   ]
 
 -- ---- the file
@@ -409,8 +423,9 @@ judged g None = (
     -- `Toml` is there and is the first
     at : (cause : Cause) → Toml ≡ cause →
         IsIn g None cause × ((other : Cause) → rank_of_cause other < rank_of_cause cause → IsIn g None other → ⊥)
-    at cause e =
-        subst (λ c. IsIn g None c × ((other : Cause) → rank_of_cause other < rank_of_cause c → IsIn g None other → ⊥)) e
+    at cause same =
+        subst (λ c. IsIn g None c × ((other : Cause) → rank_of_cause other < rank_of_cause c → IsIn g None other → ⊥))
+        same
         (refl, λ other l h. absurd (omega (arith, l)))
 
     -- without a document no other cause is there
@@ -468,7 +483,11 @@ judged g (Some ms) = (
 pub first_causes_are_told : FirstCausesAreTold
 unfolding file_of
 first_causes_are_told g bytes = let is = judged g (document_of bytes) in record {
-  refused = λ cause.
-      (λ e. let h = (is.0 cause).0 e in record { there = h.0; none = h.1 }, λ h. (is.0 cause).1 (h.there, h.none));
+  refused = λ cause. (
+    λ refused_for.
+        let first_failed = (is.0 cause).0 refused_for in
+        record { there = first_failed.0; none = first_failed.1 },
+    λ first_failed. (is.0 cause).1 (first_failed.there, first_failed.none),
+  );
   played = is.1;
 }

@@ -17,12 +17,12 @@ file_of-read g bytes ms text read = rw (is_utf8-from_IsUtf8 bytes text, read) re
 
 -- an option after a test is `None` if it is so whenever the test passes
 none_if : (b : Bool) (o : Option Members) → (b ≡ true → o ≡ None) → cond b o None ≡ None
-none_if true o h = h refl
-none_if false o h = refl
+none_if true o each = each refl
+none_if false o each = refl
 
 -- bytes that aren't UTF-8, or spell no document, are rejected with `Toml`
 pub file_of-refused : (g : Graph) (bytes : List ℕ) → (IsUtf8 bytes → parse_document bytes ≡ None) →
     file_of g bytes ≡ Err (Bad Toml)
 unfolding file_of
-file_of-refused g bytes h =
-    rw (none_if (is_utf8 bytes) (parse_document bytes) (λ e. h (IsUtf8-from_is_utf8 bytes e))) refl
+file_of-refused g bytes each =
+    rw (none_if (is_utf8 bytes) (parse_document bytes) (λ e. each (IsUtf8-from_is_utf8 bytes e))) refl

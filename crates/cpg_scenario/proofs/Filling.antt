@@ -18,13 +18,14 @@ all_pass p n h = all_from p (numbers_below n) (λ i c. h i (numbers-Contains n i
 
 -- a test that fails for one number below a bound doesn't pass for all
 pub one_fails : (p : ℕ → Bool) (n i : ℕ) → i < n → p i ≡ false → list_all p (numbers_below n) ≡ false
-one_fails p n i l e = false_from_ne_true (list_all p (numbers_below n))
-    (λ t. both_ways _ e (from_all p (numbers_below n) i t (Contains-numbers n i l)))
+one_fails p n i less is_false = false_from_ne_true (list_all p (numbers_below n))
+    (λ t. both_ways _ is_false (from_all p (numbers_below n) i t (Contains-numbers n i less)))
 
 -- what holds of the numbers below n, and of n, holds of those below n + 1
 pub below_next : (P : ℕ → Type 0) (n : ℕ) → ((i : ℕ) → i < n → P i) → P n → (i : ℕ) → i < n + 1 → P i
-below_next P n h here i l =
-    ⊎_elim (λ (k : i < n). h i k) (λ (k : n ≤ i). let e : n ≡ i = omega arith in subst P e here) (cases_lt i n)
+below_next P n below_n here i below_next_one =
+    ⊎_elim (λ (which : i < n). below_n i which)
+    (λ (which : n ≤ i). let is_n : n ≡ i = omega arith in subst P is_n here) (cases_lt i n)
 
 -- ---- a list that is filled in
 
@@ -38,19 +39,19 @@ pub record FilledTo {X : Type 0} (f : ℕ → X) (count : ℕ) (d : X) (n : ℕ)
 -- at the start nothing is filled in
 pub filled_first : {X : Type 0} (f : ℕ → X) (count : ℕ) (d : X) (xs : List X) → length xs ≡ count →
     FilledTo f count d 0 xs
-filled_first f count d xs l = record { long = l; there = λ i k. absurd (omega arith) }
+filled_first f count d xs is = record { long = is; there = λ i k. absurd (omega arith) }
 
 -- with f n set at place n, a list that is filled up to n is filled up to n + 1
 pub filled_next : {X : Type 0} (f : ℕ → X) (count : ℕ) (d : X) (n : ℕ) (xs : List X) (x : X) → n < count → x ≡ f n →
     FilledTo f count d n xs →
     FilledTo f count d (n + 1) (set xs n x)
-filled_next f count d n xs x l e h = record {
-  long = length-set xs n x ∙ h.long;
-  there = λ i k. ⊎_elim
-      (λ (m : i < n). get_or-set_other xs n i x d (λ s. omega arith) ∙ h.there i m)
-      (λ (m : n ≤ i). let s : i ≡ n = omega arith in
-      ap (λ j. get_or (set xs n x) j d) s ∙ get_or-set_same xs n x d (let w = h.long in omega arith)
-      ∙ e ∙ ap f (sym s))
+filled_next f count d n xs x place_inside is_value filled = record {
+  long = length-set xs n x ∙ filled.long;
+  there = λ i i_below. ⊎_elim
+      (λ (which : i < n). get_or-set_other xs n i x d (λ is_n. omega arith) ∙ filled.there i which)
+      (λ (which : n ≤ i). let is_n : i ≡ n = omega arith in
+      ap (λ j. get_or (set xs n x) j d) is_n ∙ get_or-set_same xs n x d (let long_enough = filled.long in omega arith)
+      ∙ is_value ∙ ap f (sym is_n))
       (cases_lt i n);
 }
 
@@ -58,25 +59,27 @@ filled_next f count d n xs x l e h = record {
 pub filled_all : {X : Type 0} (f : ℕ → X) (count : ℕ) (d : X) (n : ℕ) (xs : List X) → count ≤ n →
     FilledTo f count d n xs →
     xs ≡ map f (numbers_below count)
-filled_all f count d n xs l h =
+filled_all f count d n xs all_filled filled =
     let long = length-map (numbers_below count) f ∙ length-range_with_len 0 count in
-    ext_get_or d xs (map f (numbers_below count)) (h.long ∙ sym long) (λ i k. h.there i (let w = h.long in omega arith)
-    ∙ sym (get_or-map-below f count i d (let w = h.long in omega arith)))
+    ext_get_or d xs (map f (numbers_below count)) (filled.long ∙ sym long)
+    (λ i i_below. filled.there i (let long_enough = filled.long in omega arith)
+    ∙ sym (get_or-map-below f count i d (let long_enough = filled.long in omega arith)))
 
 -- ---- the rest of a budget
 
 -- the sum of f over the numbers below n + 1 is that over those below n, and f n
 pub sum_next : (f : ℕ → ℕ) (n : ℕ) → sum_by f (numbers_below (n + 1)) ≡ sum_by f (numbers_below n) + f n
 sum_next f n = ap (sum_by f) (below_push n) ∙ sum_by-append f (numbers_below n) (n ∷ [])
-    ∙ (let e = sum_by-cons f n [] in omega arith)
+    ∙ (let one_more = sum_by-cons f n [] in omega arith)
 
 -- a sum over more numbers is no less
 sum_grows : (f : ℕ → ℕ) (n m : ℕ) → sum_by f (numbers_below n) ≤ sum_by f (numbers_below (n + m))
-sum_grows f n zero = let e = ap (λ k. sum_by f (numbers_below k)) (let h : n + 0 ≡ n = omega arith in h) in omega arith
+sum_grows f n zero =
+    let same_sum = ap (λ k. sum_by f (numbers_below k)) (let sums : n + 0 ≡ n = omega arith in sums) in omega arith
 sum_grows f n (suc m) =
-    let a = sum_grows f n m in
-    let b = sum_next f (n + m) in
-    let e = ap (λ k. sum_by f (numbers_below k)) (let h : n + suc m ≡ n + m + 1 = omega arith in h) in
+    let so_far = sum_grows f n m in
+    let next = sum_next f (n + m) in
+    let same_sum = ap (λ k. sum_by f (numbers_below k)) (let sums : n + suc m ≡ n + m + 1 = omega arith in sums) in
     omega arith
 
 -- If the numbers below n leave `left` of a budget, and the number at n is more, the whole sum is over the budget, as
@@ -84,8 +87,9 @@ sum_grows f n (suc m) =
 pub over_budget : (f : ℕ → ℕ) (count n budget left : ℕ) → n < count → left + sum_by f (numbers_below n) ≡ budget →
     left < f n →
     nat_le (sum_by f (numbers_below count)) budget ≡ false
-over_budget f count n budget left l e over =
-    let a = sum_next f n in
-    let b = sum_grows f (n + 1) (count - (n + 1)) in
-    let c = ap (λ k. sum_by f (numbers_below k)) (let h : n + 1 + (count - (n + 1)) ≡ count = omega arith in h) in
+over_budget f count n budget left place_inside left_is over =
+    let next_sum = sum_next f n in
+    let whole_sum = sum_grows f (n + 1) (count - (n + 1)) in
+    let same_sum = ap (λ k. sum_by f (numbers_below k))
+    (let sums : n + 1 + (count - (n + 1)) ≡ count = omega arith in sums) in
     lt-leb _ _ (omega arith)

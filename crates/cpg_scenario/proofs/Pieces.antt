@@ -86,7 +86,7 @@ pub next_pieces : (f : ℕ → List (List ℕ)) (n : ℕ) (text next : List ℕ)
     text ≡ with_pieces [] (flat_map f (numbers_below n)) →
     next ≡ with_pieces text (f n) →
     next ≡ with_pieces [] (flat_map f (numbers_below (n + 1)))
-next_pieces f n text next h k =
-    k ∙ ap (λ t. with_pieces t (f n)) h ∙ sym (with_pieces-append [] (flat_map f (numbers_below n)) (f n))
+next_pieces f n text next f_is k =
+    k ∙ ap (λ t. with_pieces t (f n)) f_is ∙ sym (with_pieces-append [] (flat_map f (numbers_below n)) (f n))
     ∙ ap (with_pieces []) (ap (λ l. flat_map f (numbers_below n) ++ l) (sym (append-nil (f n)))
     ∙ sym (flat_map-append f (numbers_below n) (n ∷ [])) ∙ ap (flat_map f) (sym (below_push n)))

@@ -46,24 +46,40 @@ use Rattle.cpg_shelf_laws.proofs.Values.{says_graph, says_log, says_part, says_p
 -- memory may run out as a file is read, whatever the shelf reports
 unread_memory : (old new : ShelfState) (told : Option Text) (halt : Halt) → halt ≡ Memory →
     StopsReading (seen old new) told halt
-unread_memory old new told halt e =
-    inr (inr (record { fault = ReadFault.OutOfMemory; halt_is = e; within = λ other. absurd (other refl); first = λ other. absurd (other refl) }))
+unread_memory old new told halt is_memory =
+    inr (inr (record {
+      fault = ReadFault.OutOfMemory;
+      halt_is = is_memory;
+      within = λ other. absurd (other refl);
+      first = λ other. absurd (other refl);
+    }))
 
 -- any command may be stopped by memory running out
 pub memory_stops : (old new : ShelfState) (c : Command) (halt : Halt) → halt ≡ Memory →
     StopsCommand (seen old new) c halt
-memory_stops old new (Show graph) halt e = inl (inl (unread_memory old new _ halt e))
-memory_stops old new (Compile graph) halt e = inl (inl (unread_memory old new _ halt e))
-memory_stops old new (Check graph pack) halt e = inl (inl (unread_memory old new _ halt e))
-memory_stops old new (Play graph pack scenario turns) halt e = inl (inl (unread_memory old new _ halt e))
-memory_stops old new (Node pack name) halt e = inl (inr
-    (inr (record { fault = PackFault.OutOfMemory; halt_is = e; within = λ other. absurd (other refl); shows = tt })))
-memory_stops old new (Trial number) halt e = e
-memory_stops old new (Live pack name stream) halt e = inl (inr
-    (inr (record { fault = PackFault.OutOfMemory; halt_is = e; within = λ other. absurd (other refl); shows = tt })))
-memory_stops old new (Hyper pairs) halt e = inl (inr e)
-memory_stops old new (Tune graph) halt e = inl (inl (unread_memory old new _ halt e))
-memory_stops old new (Audit graph pack log) halt e = inl (inl (unread_memory old new _ halt e))
+memory_stops old new (Show graph) halt is_memory = inl (inl (unread_memory old new _ halt is_memory))
+memory_stops old new (Compile graph) halt is_memory = inl (inl (unread_memory old new _ halt is_memory))
+memory_stops old new (Check graph pack) halt is_memory = inl (inl (unread_memory old new _ halt is_memory))
+memory_stops old new (Play graph pack scenario turns) halt is_memory =
+    inl (inl (unread_memory old new _ halt is_memory))
+memory_stops old new (Node pack name) halt is_memory = inl (inr
+    (inr (record {
+      fault = PackFault.OutOfMemory;
+      halt_is = is_memory;
+      within = λ other. absurd (other refl);
+      shows = tt;
+    })))
+memory_stops old new (Trial number) halt is_memory = is_memory
+memory_stops old new (Live pack name stream) halt is_memory = inl (inr
+    (inr (record {
+      fault = PackFault.OutOfMemory;
+      halt_is = is_memory;
+      within = λ other. absurd (other refl);
+      shows = tt;
+    })))
+memory_stops old new (Hyper pairs) halt is_memory = inl (inr is_memory)
+memory_stops old new (Tune graph) halt is_memory = inl (inl (unread_memory old new _ halt is_memory))
+memory_stops old new (Audit graph pack log) halt is_memory = inl (inl (unread_memory old new _ halt is_memory))
 
 -- a halt by which a check of tables `t` stops is one of the earlier contract
 verdict_told : (a : Admission) (t : Tables) (halt : Halt) → Unverified a t halt → StopsVerdict a t halt
@@ -72,7 +88,7 @@ verdict_told a t halt (inr broken) = inr (inl broken)
 
 -- the halt for a name that no node has is one of the earlier contract
 naming_told : (t : Tables) (name : Text) (halt : Halt) → Unnamed t name halt → StopsNaming t name halt
-naming_told t name halt u = inl (u.halt_is, u.none)
+naming_told t name halt unnamed = inl (unnamed.halt_is, unnamed.none)
 
 -- given a shelf that a run has kept
 module _ (old new : ShelfState) (k : KeepsShelf old new) where
@@ -80,100 +96,105 @@ module _ (old new : ShelfState) (k : KeepsShelf old new) where
 
   -- the one fetch is the last
   one : (f : Fetch) → new.history ≡ f ∷ old.history → IsLast old new f
-  one f e = last old new k f [] e
+  one f history_is = last old new k f [] history_is
 
   -- of two fetches `f` and `p`, one after the other, the second is the last
   two : (f p : Fetch) → new.history ≡ p ∷ f ∷ old.history → IsLast old new p
-  two f p e = last old new k p (f ∷ []) e
+  two f p history_is = last old new k p (f ∷ []) history_is
 
   -- of two fetches `f` and `p`, one after the other, the first gave what the shelf reports
   first : (f p : Fetch) → new.history ≡ p ∷ f ∷ old.history → Agrees old.stands f
-  first f p e = agreed old new k f (record { newer = p ∷ []; older = []; is = e })
+  first f p history_is = agreed old new k f (record { newer = p ∷ []; older = []; is = history_is })
 
   -- of three fetches `f`, `p` and `c`, one after another, the third is the last
   three : (f p c : Fetch) → new.history ≡ c ∷ p ∷ f ∷ old.history → IsLast old new c
-  three f p c e = last old new k c (p ∷ f ∷ []) e
+  three f p c history_is = last old new k c (p ∷ f ∷ []) history_is
 
   -- of three fetches `f`, `p` and `c`, one after another, the first gave what the shelf reports
   first_three : (f p c : Fetch) → new.history ≡ c ∷ p ∷ f ∷ old.history → Agrees old.stands f
-  first_three f p c e = agreed old new k f (record { newer = c ∷ p ∷ []; older = []; is = e })
+  first_three f p c history_is = agreed old new k f (record { newer = c ∷ p ∷ []; older = []; is = history_is })
 
   -- of three fetches `f`, `p` and `c`, one after another, the second gave what the shelf reports
   second_three : (f p c : Fetch) → new.history ≡ c ∷ p ∷ f ∷ old.history → Agrees old.stands p
-  second_three f p c e = agreed old new k p (record { newer = c ∷ []; older = f ∷ []; is = e })
+  second_three f p c history_is = agreed old new k p (record { newer = c ∷ []; older = f ∷ []; is = history_is })
 
   -- if the last fetch gave no more than a limit, the count of its bytes isn't more
   within : (f : Fetch) (limit : ℕ) → IsLast old new f → length f.given ≤ limit → given_count new ≤ limit
-  within f limit is short = let c = is.count in omega (arith, c, short)
+  within f limit is short = let count = is.count in omega (arith, count, short)
 
   -- the value `v` of a graph file that fetch `f` read is an admitted graph, and what the shelf reports of the file says
   -- it
   graph_of : (g : Option Graph) (name : Text) (f : Fetch) (v : Value) → IsRead g (file GraphFile name) f v →
       Agrees old.stands f →
       (a : Admission) × (v ≡ graph_value a) × Admits (old.stands name) a
-  graph_of g name f v r ag = (
-    r.says.0,
-    r.says.1,
-    admits (old.stands name) f.given r.says.0
-        (tells_whole old.stands (file GraphFile name) f r.whole ag) r.whole.short r.says.2,
+  graph_of g name f v reads agrees = (
+    reads.says.0,
+    reads.says.1,
+    admits (old.stands name) f.given reads.says.0
+        (tells_whole old.stands (file GraphFile name) f reads.whole agrees) reads.whole.short reads.says.2,
   )
 
   -- the value `v` of a pack that fetch `f` read is tables, and what the shelf reports of the file spells them
   tables_of : (g : Option Graph) (name : Text) (f : Fetch) (v : Value) → IsRead g (file PackFile name) f v →
       Agrees old.stands f →
       (t : Tables) × (v ≡ tables_value t) × Spells (old.stands name) t
-  tables_of g name f v r ag = (
-    r.says.0,
-    r.says.1,
-    spells (old.stands name) f.given r.says.0
-        (tells_whole old.stands (file PackFile name) f r.whole ag) r.whole.short r.says.2,
+  tables_of g name f v reads agrees = (
+    reads.says.0,
+    reads.says.1,
+    spells (old.stands name) f.given reads.says.0
+        (tells_whole old.stands (file PackFile name) f reads.whole agrees) reads.whole.short reads.says.2,
   )
 
   -- what the shelf reports of a graph file that fetch `f` read says the graph `a`
   graph_is : (g : Option Graph) (name : Text) (f : Fetch) (a : Admission) →
       IsRead g (file GraphFile name) f (graph_value a) → Agrees old.stands f →
       Admits (old.stands name) a
-  graph_is g name f a r ag = admits (old.stands name) f.given a
-      (tells_whole old.stands (file GraphFile name) f r.whole ag) r.whole.short (says_graph g f.given a r.says)
+  graph_is g name f a reads agrees = admits (old.stands name) f.given a
+      (tells_whole old.stands (file GraphFile name) f reads.whole agrees) reads.whole.short
+      (says_graph g f.given a reads.says)
 
   -- what the shelf reports of a pack that fetch `f` read spells the tables `t`
   tables_are : (g : Option Graph) (name : Text) (f : Fetch) (t : Tables) →
       IsRead g (file PackFile name) f (tables_value t) → Agrees old.stands f →
       Spells (old.stands name) t
-  tables_are g name f t r ag = spells (old.stands name) f.given t
-      (tells_whole old.stands (file PackFile name) f r.whole ag) r.whole.short (says_tables g f.given t r.says)
+  tables_are g name f t reads agrees = spells (old.stands name) f.given t
+      (tells_whole old.stands (file PackFile name) f reads.whole agrees) reads.whole.short
+      (says_tables g f.given t reads.says)
 
   -- the same for a pack that fetch `f` read before any graph, with tables `t`
   pub spelled_by : (name : Text) (f : Fetch) (t : Tables) → IsRead None (file PackFile name) f (tables_value t) →
       Agrees old.stands f →
       Spells (old.stands name) t
-  spelled_by name f t r ag = tables_are None name f t r ag
+  spelled_by name f t reads agrees = tables_are None name f t reads agrees
 
   -- what the shelf reports of a scenario file that fetch `f` read says what is played, `p`
   played_is : (g : Graph) (name : Text) (f : Fetch) (p : Played) →
       IsRead (Some g) (file ScenarioFile name) f (played_value p) → Agrees old.stands f →
       SaysPlayed (old.stands name) g p
-  played_is g name f p r ag = says_scenario (old.stands name) f.given g p
-      (tells_whole old.stands (file ScenarioFile name) f r.whole ag) r.whole.short (says_played g f.given p r.says)
+  played_is g name f p reads agrees = says_scenario (old.stands name) f.given g p
+      (tells_whole old.stands (file ScenarioFile name) f reads.whole agrees) reads.whole.short
+      (says_played g f.given p reads.says)
 
   -- what the shelf reports of a log that fetch `f` read says the log `l`
   log_is : (g : Graph) (name : Text) (f : Fetch) (l : Log) → IsRead (Some g) (file LogFile name) f (log_value l) →
       Agrees old.stands f →
       SaysLog (old.stands name) g l
-  log_is g name f l r ag = says_acts (old.stands name) f.given g l
-      (tells_whole old.stands (file LogFile name) f r.whole ag) r.whole.short (says_log g f.given l r.says)
+  log_is g name f l reads agrees = says_acts (old.stands name) f.given g l
+      (tells_whole old.stands (file LogFile name) f reads.whole agrees) reads.whole.short
+      (says_log g f.given l reads.says)
 
   -- what the shelf reports of a part's file that fetch `f` read says its graph `h`
   part_is : (g : Option Graph) (name : Text) (f : Fetch) (h : Graph) → IsRead g (file PartFile name) f (part_value h) →
       Agrees old.stands f →
       Says (old.stands name) h
-  part_is g name f h r ag = says (old.stands name) f.given h
-      (tells_whole old.stands (file PartFile name) f r.whole ag) r.whole.short (says_part g f.given h r.says)
+  part_is g name f h reads agrees = says (old.stands name) f.given h
+      (tells_whole old.stands (file PartFile name) f reads.whole agrees) reads.whole.short
+      (says_part g f.given h reads.says)
 
   -- after the values `v` and `w` of a graph and of tables, files are read for that graph
   behind : (v w : Value) (a : Admission) (t : Tables) → v ≡ graph_value a → w ≡ tables_value t →
       graph_after (graph_after None v) w ≡ Some a.graph
-  behind v w a t e d = ap (graph_after (graph_after None v)) d ∙ ap (graph_after None) e
+  behind v w a t is_graph is_tables = ap (graph_after (graph_after None v)) is_tables ∙ ap (graph_after None) is_graph
 
   -- ---- parts
 
@@ -183,24 +204,24 @@ module _ (old new : ShelfState) (k : KeepsShelf old new) where
       past ≡ older ++ old.history →
       StopsFiles g (part_files pairs) past new.history halt →
       IsUnsaid (seen old new) pairs halt
-  unsaid g [] past older halt e s = absurd s
+  unsaid g [] past older halt grown_by stops_here = absurd stops_here
   -- the first file stops it, and none is before it
-  unsaid g (pair ∷ pairs) past older halt e (f, inl (stops, is)) = record {
+  unsaid g (pair ∷ pairs) past older halt same (f, inl (stops, is)) = record {
     place = 0;
     within = omega arith;
     earlier = [];
     said = tt;
-    stops = λ d. stops_part old new f (last old new k f older (is ∙ ap (λ h. f ∷ h) e)) pair.graph g halt stops;
+    stops = λ d. stops_part old new f (last old new k f older (is ∙ ap (λ h. f ∷ h) same)) pair.graph g halt stops;
   }
   -- the first file was read, so what the shelf reports of it says its graph, and a later one stops the run
-  unsaid g (pair ∷ pairs) past older halt e (f, inr (v, r, there)) =
-      let rest = unsaid (graph_after g v) pairs (f ∷ past) (f ∷ older) halt (ap (λ h. f ∷ h) e) there in
+  unsaid g (pair ∷ pairs) past older halt same (f, inr (v, r, there)) =
+      let rest = unsaid (graph_after g v) pairs (f ∷ past) (f ∷ older) halt (ap (λ h. f ∷ h) same) there in
       let grown = stops_grown (graph_after g v) (part_files pairs) (f ∷ past) new.history halt there in
       let ag = agreed old new k f
-      (record { newer = grown.fetches; older = older; is = grown.is ∙ ap (λ h. grown.fetches ++ f ∷ h) e }) in
+      (record { newer = grown.fetches; older = older; is = grown.is ∙ ap (λ h. grown.fetches ++ f ∷ h) same }) in
       record {
         place = suc rest.place;
-        within = (let w = rest.within in omega (arith, w));
+        within = (let inside = rest.within in omega (arith, inside));
         earlier = record { period = pair.period; problem = r.says.0 } ∷ rest.earlier;
         said = (
           refl,
@@ -217,17 +238,17 @@ module _ (old new : ShelfState) (k : KeepsShelf old new) where
       Reads g (part_files pairs) past new.history (part_values parts) → HavePeriods pairs parts →
       AreSaid old.stands pairs parts
   -- there are as many parts as pairs
-  parts_said g [] [] past older e r h = tt
-  parts_said g [] (part ∷ parts) past older e r h = absurd h
-  parts_said g (pair ∷ pairs) [] past older e r h = absurd h
+  parts_said g [] [] past older same reads have_periods = tt
+  parts_said g [] (part ∷ parts) past older same reads have_periods = absurd have_periods
+  parts_said g (pair ∷ pairs) [] past older same reads have_periods = absurd have_periods
   -- the first file was read, and so were the others
-  parts_said g (pair ∷ pairs) (part ∷ parts) past older e (f, r, rest) h =
+  parts_said g (pair ∷ pairs) (part ∷ parts) past older same (f, r, rest) h =
       let grown = reads_grown g (part_files pairs) (f ∷ past) new.history (part_values parts) rest in
       let ag = agreed old new k f
-      (record { newer = grown.fetches; older = older; is = grown.is ∙ ap (λ h. grown.fetches ++ f ∷ h) e }) in (
+      (record { newer = grown.fetches; older = older; is = grown.is ∙ ap (λ h. grown.fetches ++ f ∷ h) same }) in (
         h.0,
         part_is g pair.graph f part.problem r ag,
-        parts_said g pairs parts (f ∷ past) (f ∷ older) (ap (λ h. f ∷ h) e) rest h.1,
+        parts_said g pairs parts (f ∷ past) (f ∷ older) (ap (λ h. f ∷ h) same) rest h.1,
       )
 
   -- the file of the last part, if all were read, gave no more than the limit; by induction on the pairs, of which there
@@ -238,15 +259,15 @@ module _ (old new : ShelfState) (k : KeepsShelf old new) where
       Reads g (part_files pairs) past new.history (part_values parts) → HavePeriods pairs parts →
       given_count new ≤ GRAPH_LIMIT
   -- there is a pair, and as many parts
-  parts_within g [] parts past older e some r h = absurd (omega (arith, some))
-  parts_within g (pair ∷ pairs) [] past older e some r h = absurd h
+  parts_within g [] parts past older same some reads have_periods = absurd (omega (arith, some))
+  parts_within g (pair ∷ pairs) [] past older same some reads have_periods = absurd have_periods
   -- a single file is the last
-  parts_within g (pair ∷ []) (part ∷ []) past older e some (f, r, is) h =
-      within f (limit_of PartFile) (last old new k f older (is ∙ ap (λ h. f ∷ h) e)) r.whole.short
-  parts_within g (pair ∷ []) (part ∷ other ∷ parts) past older e some r h = absurd h.1
+  parts_within g (pair ∷ []) (part ∷ []) past older same some (f, r, is) h =
+      within f (limit_of PartFile) (last old new k f older (is ∙ ap (λ h. f ∷ h) same)) r.whole.short
+  parts_within g (pair ∷ []) (part ∷ other ∷ parts) past older same some reads have_periods = absurd have_periods.1
   -- if another file follows, the last one is among the others
-  parts_within g (pair ∷ next ∷ pairs) (part ∷ parts) past older e some (f, r, rest) h =
-      parts_within g (next ∷ pairs) parts (f ∷ past) (f ∷ older) (ap (λ h. f ∷ h) e) (omega arith) rest h.1
+  parts_within g (pair ∷ next ∷ pairs) (part ∷ parts) past older same some (f, r, rest) h =
+      parts_within g (next ∷ pairs) parts (f ∷ past) (f ∷ older) (ap (λ h. f ∷ h) same) (omega arith) rest h.1
 
   -- ---- a file stops a command
 
@@ -264,26 +285,27 @@ module _ (old new : ShelfState) (k : KeepsShelf old new) where
   -- `check`: the graph file, or the pack after it
   stops_files (Check name pack) halt (f, inl (stops, e)) = inl (stops_graph old new f (one f e) name None halt stops)
   stops_files (Check name pack) halt (f, inr (v, r, (p, inl (stops, e)))) =
-      let a = graph_of None name f v r (first f p e) in
-      inr (a.0, a.2, inl (stops_pack old new p (two f p e) pack (graph_after None v) halt stops))
+      let admitted = graph_of None name f v r (first f p e) in
+      inr (admitted.0, admitted.2, inl (stops_pack old new p (two f p e) pack (graph_after None v) halt stops))
   stops_files (Check name pack) halt (f, inr (v, r, (p, inr (w, q, none)))) = absurd none
   -- `play`: the graph file, the pack after it, or the scenario file after both
   stops_files (Play name pack scenario turns) halt (f, inl (stops, e)) =
       inl (stops_graph old new f (one f e) name None halt stops)
   stops_files (Play name pack scenario turns) halt (f, inr (v, r, (p, inl (stops, e)))) =
-      let a = graph_of None name f v r (first f p e) in
-      inr (a.0, a.2, inl (stops_pack old new p (two f p e) pack (graph_after None v) halt stops))
+      let admitted = graph_of None name f v r (first f p e) in
+      inr (admitted.0, admitted.2, inl (stops_pack old new p (two f p e) pack (graph_after None v) halt stops))
   stops_files (Play name pack scenario turns) halt (f, inr (v, r, (p, inr (w, q, (c, inl (stops, e)))))) =
-      let a = graph_of None name f v r (first_three f p c e) in
-      let t = tables_of (graph_after None v) pack p w q (second_three f p c e) in
+      let admitted = graph_of None name f v r (first_three f p c e) in
+      let packed = tables_of (graph_after None v) pack p w q (second_three f p c e) in
       inr (
-        a.0,
-        a.2,
+        admitted.0,
+        admitted.2,
         inr (
-          t.0,
-          t.2,
-          inl (stops_scenario old new c (three f p c e) scenario a.0.graph halt
-              (subst (λ g. StopsAt g (file ScenarioFile scenario) c halt) (behind v w a.0 t.0 a.1 t.1) stops)),
+          packed.0,
+          packed.2,
+          inl (stops_scenario old new c (three f p c e) scenario admitted.0.graph halt
+              (subst (λ g. StopsAt g (file ScenarioFile scenario) c halt)
+              (behind v w admitted.0 packed.0 admitted.1 packed.1) stops)),
         ),
       )
   stops_files (Play name pack scenario turns) halt (f, inr (v, r, (p, inr (w, q, (c, inr (u, s, none)))))) = absurd none
@@ -291,19 +313,20 @@ module _ (old new : ShelfState) (k : KeepsShelf old new) where
   stops_files (Audit name pack log) halt (f, inl (stops, e)) =
       inl (stops_graph old new f (one f e) name None halt stops)
   stops_files (Audit name pack log) halt (f, inr (v, r, (p, inl (stops, e)))) =
-      let a = graph_of None name f v r (first f p e) in
-      inr (a.0, a.2, inl (stops_pack old new p (two f p e) pack (graph_after None v) halt stops))
+      let admitted = graph_of None name f v r (first f p e) in
+      inr (admitted.0, admitted.2, inl (stops_pack old new p (two f p e) pack (graph_after None v) halt stops))
   stops_files (Audit name pack log) halt (f, inr (v, r, (p, inr (w, q, (c, inl (stops, e)))))) =
-      let a = graph_of None name f v r (first_three f p c e) in
-      let t = tables_of (graph_after None v) pack p w q (second_three f p c e) in
+      let admitted = graph_of None name f v r (first_three f p c e) in
+      let packed = tables_of (graph_after None v) pack p w q (second_three f p c e) in
       inr (
-        a.0,
-        a.2,
+        admitted.0,
+        admitted.2,
         inr (
-          t.0,
-          t.2,
-          inl (stops_log old new c (three f p c e) log a.0.graph halt
-              (subst (λ g. StopsAt g (file LogFile log) c halt) (behind v w a.0 t.0 a.1 t.1) stops)),
+          packed.0,
+          packed.2,
+          inl (stops_log old new c (three f p c e) log admitted.0.graph halt
+              (subst (λ g. StopsAt g (file LogFile log) c halt) (behind v w admitted.0 packed.0 admitted.1 packed.1)
+              stops)),
         ),
       )
   stops_files (Audit name pack log) halt (f, inr (v, r, (p, inr (w, q, (c, inr (u, s, none)))))) = absurd none
@@ -436,9 +459,9 @@ module _ (old new : ShelfState) (k : KeepsShelf old new) where
       OnGraph values (λ a. IsUncompiled a halt) →
       StopsGraph (seen old new) (old.stands name) (IsAfterReading (given_count new) GRAPH_LIMIT IsUncompiled) halt
   compiled_stops name halt values reads (a, e, un) =
-      let h = one_read GraphFile name (graph_value a)
+      let files = one_read GraphFile name (graph_value a)
       (subst (λ vs. Reads None (file GraphFile name ∷ []) old.history new.history vs) e reads) in
-      inr (a, one_graph name a h, record { stops = un; within = one_within name a h })
+      inr (a, one_graph name a files, record { stops = un; within = one_within name a files })
 
   -- if no node of a pack has the name, the earlier contract has this stop too
   naming_stops : (pack name : Text) (halt : Halt) (values : List Value) →
@@ -447,9 +470,9 @@ module _ (old new : ShelfState) (k : KeepsShelf old new) where
       StopsTables (seen old new) (old.stands pack)
       (IsAfterReading (given_count new) PACK_LIMIT (λ t. StopsNaming t name)) halt
   naming_stops pack name halt values reads (t, e, un) =
-      let h = one_read PackFile pack (tables_value t)
+      let files = one_read PackFile pack (tables_value t)
       (subst (λ vs. Reads None (file PackFile pack ∷ []) old.history new.history vs) e reads) in
-      inr (t, one_pack pack t h, record { stops = naming_told t name halt un; within = pack_within pack t h })
+      inr (t, one_pack pack t files, record { stops = naming_told t name halt un; within = pack_within pack t files })
 
   -- If a command's work on what its files say stops it, the earlier contract has this stop too, by what the shelf
   -- reports of the files. By the command, whose files were all read.
@@ -466,62 +489,66 @@ module _ (old new : ShelfState) (k : KeepsShelf old new) where
   stops_work words (Live pack name stream) halt values is reads stops = naming_stops pack name halt values reads stops
   -- `check`: both files were read
   stops_work words (Check name pack) halt values is reads (a, t, e, un) =
-      let h = two_read name pack a t (subst (λ vs. Files (Check name pack) vs) e reads) in
+      let files = two_read name pack a t (subst (λ vs. Files (Check name pack) vs) e reads) in
       inr (
         a,
-        two_graph name pack a t h,
+        two_graph name pack a t files,
         inr (
           t,
-          two_pack name pack a t h,
-          record { stops = verdict_told a t halt un; within = two_within name pack a t h },
+          two_pack name pack a t files,
+          record { stops = verdict_told a t halt un; within = two_within name pack a t files },
         ),
       )
   -- `play`: the three files were read, and the last says what is played
   stops_work words (Play name pack scenario turns) halt values is reads (a, t, p, e, un) =
-      let v = played_value p in
-      let h = three_read ScenarioFile name pack scenario a t v
+      let played = played_value p in
+      let files = three_read ScenarioFile name pack scenario a t played
       (subst (λ vs. Files (Play name pack scenario turns) vs) e reads) in
-      let said = played_is a.graph scenario h.c p h.s (three_agrees ScenarioFile name pack scenario a t v h) in
+      let said =
+      played_is a.graph scenario files.c p files.s (three_agrees ScenarioFile name pack scenario a t played files) in
       inr (
         a,
-        three_graph ScenarioFile name pack scenario a t v h,
+        three_graph ScenarioFile name pack scenario a t played files,
         inr (
           t,
-          three_pack ScenarioFile name pack scenario a t v h,
+          three_pack ScenarioFile name pack scenario a t played files,
           inr (
             p,
             said,
-            record { stops = verdict_told a t halt un; within = three_within ScenarioFile name pack scenario a t v h },
+            record {
+              stops = verdict_told a t halt un;
+              within = three_within ScenarioFile name pack scenario a t played files;
+            },
           ),
         ),
       )
   -- `audit`: the three files were read, and the last says the log
   stops_work words (Audit name pack log) halt values is reads (a, t, l, e, un) =
-      let v = log_value l in
-      let h = three_read LogFile name pack log a t v (subst (λ vs. Files (Audit name pack log) vs) e reads) in
-      let said = log_is a.graph log h.c l h.s (three_agrees LogFile name pack log a t v h) in
+      let logged = log_value l in
+      let files = three_read LogFile name pack log a t logged (subst (λ vs. Files (Audit name pack log) vs) e reads) in
+      let said = log_is a.graph log files.c l files.s (three_agrees LogFile name pack log a t logged files) in
       inr (
         a,
-        three_graph LogFile name pack log a t v h,
+        three_graph LogFile name pack log a t logged files,
         inr (
           t,
-          three_pack LogFile name pack log a t v h,
+          three_pack LogFile name pack log a t logged files,
           inr (
             l,
             said,
-            record { stops = verdict_told a t halt un; within = three_within LogFile name pack log a t v h },
+            record { stops = verdict_told a t halt un; within = three_within LogFile name pack log a t logged files },
           ),
         ),
       )
   -- `hyper`: the files of all parts were read
   stops_work words (Hyper pairs) halt values is reads (parts, e, periods, un) =
-      let h = subst (λ vs. Files (Hyper pairs) vs) e reads in
+      let files = subst (λ vs. Files (Hyper pairs) vs) e reads in
       inr (
         parts,
-        parts_said None pairs parts old.history [] refl h periods,
+        parts_said None pairs parts old.history [] refl files periods,
         record {
           stops = un;
-          within = parts_within None pairs parts old.history [] refl (some_parts words pairs is) h periods;
+          within = parts_within None pairs parts old.history [] refl (some_parts words pairs is) files periods;
         },
       )
 
@@ -534,79 +561,81 @@ module _ (old new : ShelfState) (k : KeepsShelf old new) where
       CommandPrints (seen old new) c text
   -- commands on a graph file alone
   prints words (Show name) text values is reads (a, e, made) =
-      let h = one_read GraphFile name (graph_value a) (subst (λ vs. Files (Show name) vs) e reads) in
-      record { output = (a, one_graph name a h, made); within = one_within name a h }
+      let files = one_read GraphFile name (graph_value a) (subst (λ vs. Files (Show name) vs) e reads) in
+      record { output = (a, one_graph name a files, made); within = one_within name a files }
   prints words (Compile name) text values is reads (a, e, made) =
-      let h = one_read GraphFile name (graph_value a) (subst (λ vs. Files (Compile name) vs) e reads) in
-      record { output = (a, one_graph name a h, made); within = one_within name a h }
+      let files = one_read GraphFile name (graph_value a) (subst (λ vs. Files (Compile name) vs) e reads) in
+      record { output = (a, one_graph name a files, made); within = one_within name a files }
   prints words (Tune name) text values is reads (a, e, made) =
-      let h = one_read GraphFile name (graph_value a) (subst (λ vs. Files (Tune name) vs) e reads) in
-      record { output = (a, one_graph name a h, made); within = one_within name a h }
+      let files = one_read GraphFile name (graph_value a) (subst (λ vs. Files (Tune name) vs) e reads) in
+      record { output = (a, one_graph name a files, made); within = one_within name a files }
   -- `trial` has no file
   prints words (Trial number) text values is reads made = record { output = made; within = tt }
   -- commands on a pack alone; `live` puts out no text here
   prints words (Node pack name) text values is reads (t, e, made) =
-      let h = one_read PackFile pack (tables_value t) (subst (λ vs. Files (Node pack name) vs) e reads) in
-      record { output = (t, one_pack pack t h, made); within = pack_within pack t h }
+      let files = one_read PackFile pack (tables_value t) (subst (λ vs. Files (Node pack name) vs) e reads) in
+      record { output = (t, one_pack pack t files, made); within = pack_within pack t files }
   prints words (Live pack name stream) text values is reads none = absurd none
   -- `check`: both files were read
   prints words (Check name pack) text values is reads (a, t, e, made) =
-      let h = two_read name pack a t (subst (λ vs. Files (Check name pack) vs) e reads) in
+      let files = two_read name pack a t (subst (λ vs. Files (Check name pack) vs) e reads) in
       record {
-        output = (a, two_graph name pack a t h, (t, two_pack name pack a t h, made));
-        within = two_within name pack a t h;
+        output = (a, two_graph name pack a t files, (t, two_pack name pack a t files, made));
+        within = two_within name pack a t files;
       }
   -- `play`: the three files were read, and the last says what is played
   prints words (Play name pack scenario turns) text values is reads (a, t, p, e, made) =
-      let v = played_value p in
-      let h = three_read ScenarioFile name pack scenario a t v
+      let play_value = played_value p in
+      let files = three_read ScenarioFile name pack scenario a t play_value
       (subst (λ vs. Files (Play name pack scenario turns) vs) e reads) in
-      let said = played_is a.graph scenario h.c p h.s (three_agrees ScenarioFile name pack scenario a t v h) in
+      let said =
+      played_is a.graph scenario files.c p files.s (three_agrees ScenarioFile name pack scenario a t play_value
+      files) in
       record {
         output = (
           a,
-          three_graph ScenarioFile name pack scenario a t v h,
+          three_graph ScenarioFile name pack scenario a t play_value files,
           (
             t,
-            three_pack ScenarioFile name pack scenario a t v h,
+            three_pack ScenarioFile name pack scenario a t play_value files,
             record {
               judged = made.judged;
               played = p;
               says = said;
-              lawful = (says_played a.graph h.c.given p h.s.says).lawful;
+              lawful = (says_played a.graph files.c.given p files.s.says).lawful;
               played_text = made.play;
             },
           ),
         );
-        within = three_within ScenarioFile name pack scenario a t v h;
+        within = three_within ScenarioFile name pack scenario a t play_value files;
       }
   -- `audit`: the three files were read, and the last says the log
   prints words (Audit name pack log) text values is reads (a, t, l, e, made) =
-      let v = log_value l in
-      let h = three_read LogFile name pack log a t v (subst (λ vs. Files (Audit name pack log) vs) e reads) in
-      let said = log_is a.graph log h.c l h.s (three_agrees LogFile name pack log a t v h) in
+      let logged = log_value l in
+      let files = three_read LogFile name pack log a t logged (subst (λ vs. Files (Audit name pack log) vs) e reads) in
+      let said = log_is a.graph log files.c l files.s (three_agrees LogFile name pack log a t logged files) in
       record {
         output = (
           a,
-          three_graph LogFile name pack log a t v h,
+          three_graph LogFile name pack log a t logged files,
           (
             t,
-            three_pack LogFile name pack log a t v h,
+            three_pack LogFile name pack log a t logged files,
             record {
               judged = made.judged;
               log = l;
               says = said;
-              lawful = (says_log a.graph h.c.given l h.s.says).lawful;
+              lawful = (says_log a.graph files.c.given l files.s.says).lawful;
               audited = made.audited;
             },
           ),
         );
-        within = three_within LogFile name pack log a t v h;
+        within = three_within LogFile name pack log a t logged files;
       }
   -- `hyper`: the files of all parts were read
   prints words (Hyper pairs) text values is reads (parts, e, periods, made) =
-      let h = subst (λ vs. Files (Hyper pairs) vs) e reads in
+      let files = subst (λ vs. Files (Hyper pairs) vs) e reads in
       record {
-        output = (parts, parts_said None pairs parts old.history [] refl h periods, made);
-        within = parts_within None pairs parts old.history [] refl (some_parts words pairs is) h periods;
+        output = (parts, parts_said None pairs parts old.history [] refl files periods, made);
+        within = parts_within None pairs parts old.history [] refl (some_parts words pairs is) files periods;
       }

@@ -68,11 +68,11 @@ command_or d (Some c) = c
 
 -- if the words form commands `a` and `b` (`o`), these are equal
 pub same_command : (o : Option Command) (a b : Command) → o ≡ Some a → o ≡ Some b → a ≡ b
-same_command o a b e f = ap (command_or a) (sym e ∙ f)
+same_command o a b is_a is_b = ap (command_or a) (sym is_a ∙ is_b)
 
 -- words that form none form no command
 pub no_command : (c : Command) → None ≡ Some c → ⊥
-no_command c e = absurd (cc e)
+no_command c none = absurd (cc none)
 
 -- ---- values that are alike, and facts of admissions that are alike
 
@@ -83,77 +83,77 @@ moved_on a b same P p = subst (P b.graph) (sym same.order) (subst (λ g. P g a.o
 -- values `ws` that are alike to a graph `a` alone are one graph `b`, which is alike
 graph_alone : (a : Admission) (ws : List Value) → AllAlike (graph_value a ∷ []) ws →
     (b : Admission) × (ws ≡ graph_value b ∷ []) × AreAlike a b
-graph_alone a [] x = absurd x
-graph_alone a (graph_value b ∷ []) x = (b, refl, x.0)
-graph_alone a (graph_value b ∷ w ∷ ws) x = absurd x.1
-graph_alone a (part_value h ∷ ws) x = absurd x.0
-graph_alone a (tables_value t ∷ ws) x = absurd x.0
-graph_alone a (played_value p ∷ ws) x = absurd x.0
-graph_alone a (log_value l ∷ ws) x = absurd x.0
+graph_alone a [] alike = absurd alike
+graph_alone a (graph_value b ∷ []) alike = (b, refl, alike.0)
+graph_alone a (graph_value b ∷ w ∷ ws) alike = absurd alike.1
+graph_alone a (part_value h ∷ ws) alike = absurd alike.0
+graph_alone a (tables_value t ∷ ws) alike = absurd alike.0
+graph_alone a (played_value p ∷ ws) alike = absurd alike.0
+graph_alone a (log_value l ∷ ws) alike = absurd alike.0
 
 -- values `ws` that are alike to tables `t` alone are these tables
 pub tables_alone : (t : Tables) (ws : List Value) → AllAlike (tables_value t ∷ []) ws → ws ≡ tables_value t ∷ []
-tables_alone t [] x = absurd x
-tables_alone t (tables_value u ∷ []) x = ap (λ u. tables_value u ∷ []) x.0
-tables_alone t (tables_value u ∷ w ∷ ws) x = absurd x.1
-tables_alone t (graph_value b ∷ ws) x = absurd x.0
-tables_alone t (part_value h ∷ ws) x = absurd x.0
-tables_alone t (played_value p ∷ ws) x = absurd x.0
-tables_alone t (log_value l ∷ ws) x = absurd x.0
+tables_alone t [] alike = absurd alike
+tables_alone t (tables_value u ∷ []) alike = ap (λ u. tables_value u ∷ []) alike.0
+tables_alone t (tables_value u ∷ w ∷ ws) alike = absurd alike.1
+tables_alone t (graph_value b ∷ ws) alike = absurd alike.0
+tables_alone t (part_value h ∷ ws) alike = absurd alike.0
+tables_alone t (played_value p ∷ ws) alike = absurd alike.0
+tables_alone t (log_value l ∷ ws) alike = absurd alike.0
 
 -- values `ws` that are alike to a graph `a` and others, `vs`, are a graph `b` that is alike, and others that are alike
 graph_first : (a : Admission) (vs ws : List Value) → AllAlike (graph_value a ∷ vs) ws →
     (b : Admission) × (rest : List Value) × (ws ≡ graph_value b ∷ rest) × AreAlike a b × AllAlike vs rest
-graph_first a vs [] x = absurd x
-graph_first a vs (graph_value b ∷ ws) x = (b, ws, refl, x.0, x.1)
-graph_first a vs (part_value h ∷ ws) x = absurd x.0
-graph_first a vs (tables_value t ∷ ws) x = absurd x.0
-graph_first a vs (played_value p ∷ ws) x = absurd x.0
-graph_first a vs (log_value l ∷ ws) x = absurd x.0
+graph_first a vs [] alike = absurd alike
+graph_first a vs (graph_value b ∷ ws) alike = (b, ws, refl, alike.0, alike.1)
+graph_first a vs (part_value h ∷ ws) alike = absurd alike.0
+graph_first a vs (tables_value t ∷ ws) alike = absurd alike.0
+graph_first a vs (played_value p ∷ ws) alike = absurd alike.0
+graph_first a vs (log_value l ∷ ws) alike = absurd alike.0
 
 -- values `ws` that are alike to tables `t` and others, `vs`, are these tables, and others that are alike
 tables_first : (t : Tables) (vs ws : List Value) → AllAlike (tables_value t ∷ vs) ws →
     (rest : List Value) × (ws ≡ tables_value t ∷ rest) × AllAlike vs rest
-tables_first t vs [] x = absurd x
-tables_first t vs (tables_value u ∷ ws) x = (ws, ap (λ u. tables_value u ∷ ws) x.0, x.1)
-tables_first t vs (graph_value b ∷ ws) x = absurd x.0
-tables_first t vs (part_value h ∷ ws) x = absurd x.0
-tables_first t vs (played_value p ∷ ws) x = absurd x.0
-tables_first t vs (log_value l ∷ ws) x = absurd x.0
+tables_first t vs [] alike = absurd alike
+tables_first t vs (tables_value u ∷ ws) alike = (ws, ap (λ u. tables_value u ∷ ws) alike.0, alike.1)
+tables_first t vs (graph_value b ∷ ws) alike = absurd alike.0
+tables_first t vs (part_value h ∷ ws) alike = absurd alike.0
+tables_first t vs (played_value p ∷ ws) alike = absurd alike.0
+tables_first t vs (log_value l ∷ ws) alike = absurd alike.0
 
 -- Values `ws` that are alike to what is played, `p`, alone are one such value: no value, a further value or a value of
 -- another kind isn't alike.
 played_alone : (p : Played) (ws : List Value) → AllAlike (played_value p ∷ []) ws →
     (q : Played) × (ws ≡ played_value q ∷ [])
-played_alone p [] x = absurd x
-played_alone p (played_value q ∷ []) x = (q, refl)
-played_alone p (played_value q ∷ w ∷ ws) x = absurd x.1
-played_alone p (graph_value b ∷ ws) x = absurd x.0
-played_alone p (part_value h ∷ ws) x = absurd x.0
-played_alone p (tables_value t ∷ ws) x = absurd x.0
-played_alone p (log_value l ∷ ws) x = absurd x.0
+played_alone p [] alike = absurd alike
+played_alone p (played_value q ∷ []) alike = (q, refl)
+played_alone p (played_value q ∷ w ∷ ws) alike = absurd alike.1
+played_alone p (graph_value b ∷ ws) alike = absurd alike.0
+played_alone p (part_value h ∷ ws) alike = absurd alike.0
+played_alone p (tables_value t ∷ ws) alike = absurd alike.0
+played_alone p (log_value l ∷ ws) alike = absurd alike.0
 
 -- values `ws` that are alike to a log `l` alone are one log, by the same cases as for a scenario
 log_alone : (l : Log) (ws : List Value) → AllAlike (log_value l ∷ []) ws → (m : Log) × (ws ≡ log_value m ∷ [])
-log_alone l [] x = absurd x
-log_alone l (log_value m ∷ []) x = (m, refl)
-log_alone l (log_value m ∷ w ∷ ws) x = absurd x.1
-log_alone l (graph_value b ∷ ws) x = absurd x.0
-log_alone l (part_value h ∷ ws) x = absurd x.0
-log_alone l (tables_value t ∷ ws) x = absurd x.0
-log_alone l (played_value p ∷ ws) x = absurd x.0
+log_alone l [] alike = absurd alike
+log_alone l (log_value m ∷ []) alike = (m, refl)
+log_alone l (log_value m ∷ w ∷ ws) alike = absurd alike.1
+log_alone l (graph_value b ∷ ws) alike = absurd alike.0
+log_alone l (part_value h ∷ ws) alike = absurd alike.0
+log_alone l (tables_value t ∷ ws) alike = absurd alike.0
+log_alone l (played_value p ∷ ws) alike = absurd alike.0
 
 -- values that are alike to those of parts are those of these parts; by induction on the parts
 parts_alone : (parts : List Part) (ws : List Value) → AllAlike (part_values parts) ws → ws ≡ part_values parts
-parts_alone [] [] x = refl
-parts_alone [] (w ∷ ws) x = absurd x
-parts_alone (part ∷ parts) [] x = absurd x
-parts_alone (part ∷ parts) (part_value h ∷ ws) x =
-    ap (λ h. part_value h ∷ ws) x.0 ∙ ap (λ ws. part_value part.problem ∷ ws) (parts_alone parts ws x.1)
-parts_alone (part ∷ parts) (graph_value b ∷ ws) x = absurd x.0
-parts_alone (part ∷ parts) (tables_value t ∷ ws) x = absurd x.0
-parts_alone (part ∷ parts) (played_value p ∷ ws) x = absurd x.0
-parts_alone (part ∷ parts) (log_value l ∷ ws) x = absurd x.0
+parts_alone [] [] alike = refl
+parts_alone [] (w ∷ ws) alike = absurd alike
+parts_alone (part ∷ parts) [] alike = absurd alike
+parts_alone (part ∷ parts) (part_value h ∷ ws) alike =
+    ap (λ h. part_value h ∷ ws) alike.0 ∙ ap (λ ws. part_value part.problem ∷ ws) (parts_alone parts ws alike.1)
+parts_alone (part ∷ parts) (graph_value b ∷ ws) alike = absurd alike.0
+parts_alone (part ∷ parts) (tables_value t ∷ ws) alike = absurd alike.0
+parts_alone (part ∷ parts) (played_value p ∷ ws) alike = absurd alike.0
+parts_alone (part ∷ parts) (log_value l ∷ ws) alike = absurd alike.0
 
 -- If the shelf reports the parts of pairs, it reports each file with the part's graph, and the parts have the pairs'
 -- periods.
@@ -161,17 +161,19 @@ parts_told : (stands : Text → Option Text) (pairs : List Pair) (parts : List P
     AreTellingParts stands pairs parts →
     AreTold stands None (part_files pairs) (part_values parts) ×
     HavePeriods pairs parts
-parts_told stands [] [] t = (tt, tt)
-parts_told stands [] (part ∷ parts) t = absurd t
-parts_told stands (pair ∷ pairs) [] t = absurd t
-parts_told stands (pair ∷ pairs) (part ∷ parts) t =
-    let rest = parts_told stands pairs parts t.2 in
-    ((t.1.bytes, t.1.is, t.1.short, (part.problem, refl, t.1.says), rest.0), (t.0, rest.1))
+parts_told stands [] [] telling = (tt, tt)
+parts_told stands [] (part ∷ parts) telling = absurd telling
+parts_told stands (pair ∷ pairs) [] telling = absurd telling
+parts_told stands (pair ∷ pairs) (part ∷ parts) telling =
+    let rest = parts_told stands pairs parts telling.2 in (
+      (telling.1.bytes, telling.1.is, telling.1.short, (part.problem, refl, telling.1.says), rest.0),
+      (telling.0, rest.1),
+    )
 
 -- bytes that say an admitted graph `a` tell it as a value, whatever graph `o` was read before
 graph_tells : (o : Option Graph) (bytes : Text) (a : Admission) → AreAdmitted bytes a →
     Tells o GraphFile bytes (graph_value a)
-graph_tells o bytes a x = (a, refl, record { says = x.says; admitted = x.admitted })
+graph_tells o bytes a are_admitted = (a, refl, record { says = are_admitted.says; admitted = are_admitted.admitted })
 
 -- the spelling of lawful tables `t` tells them as a value, whatever graph `o` was read before
 pack_tells : (o : Option Graph) (t : Tables) → AreLawful t → Tells o PackFile (spelling t) (tables_value t)
@@ -187,8 +189,8 @@ module _ (r : Run) (w : IsLawfulRun r) (k : KeepsShelf r.shelf.old r.shelf.new) 
 
   -- if it stops as memory ran out, its status is 8
   pub of_memory : (halt : Halt) → halt ≡ Memory → IsToldRun r halt ⊎ IsMutedRun r halt → r.status ≡ 8
-  of_memory halt e (inl told) = told.status ∙ ap status_of e
-  of_memory halt e (inr muted) = absurd (calm.err muted.err.rose)
+  of_memory halt is_memory (inl told) = told.status ∙ ap status_of is_memory
+  of_memory halt is_memory (inr muted) = absurd (calm.err muted.err.rose)
 
   -- its files were read, or memory ran out, or it follows a stream
   abbrev Comes : Command → List Value → Type 0
@@ -199,13 +201,13 @@ module _ (r : Run) (w : IsLawfulRun r) (k : KeepsShelf r.shelf.old r.shelf.new) 
   has : (c : Command) (values : List Value) → command_of r.words ≡ Some c →
       AreTold r.shelf.old.stands None (files_of c) values → (d : Command) (ws : List Value) → Has r d ws →
       Comes c values
-  has c values e t d ws h =
-      let same : d ≡ c = same_command (command_of r.words) d c h.words e in
-      let also : Has r c ws = subst (λ d. Has r d ws) same h in
+  has c values words_are told d ws had =
+      let same : d ≡ c = same_command (command_of r.words) d c had.words words_are in
+      let also : Has r c ws = subst (λ d. Has r d ws) same had in
       inl (
         ws,
         also,
-        read_as_told r.shelf.old r.shelf.new k None (files_of c) r.shelf.old.history [] values ws refl t also.reads,
+        read_as_told r.shelf.old r.shelf.new k None (files_of c) r.shelf.old.history [] values ws refl told also.reads,
       )
 
   -- The same if the run stops. By where: in its words or its files it stops only as memory ran out, and in its work it
@@ -214,35 +216,38 @@ module _ (r : Run) (w : IsLawfulRun r) (k : KeepsShelf r.shelf.old r.shelf.new) 
       AreTold r.shelf.old.stands None (files_of c) values → (halt : Halt) →
       (IsToldRun r halt ⊎ IsMutedRun r halt) →
       StopsRun r halt → Comes c values
-  by_stop c values e t halt ending (inl x) = elim x.cause [
-    | inl formless ↦ absurd (no_command c (sym formless.1 ∙ e))
+  by_stop c values words_are told halt ending (inl stopped) = elim stopped.cause [
+    | inl formless ↦ absurd (no_command c (sym formless.1 ∙ words_are))
     | inr memory ↦ inr (inl (of_memory halt memory ending))
   ]
-  by_stop c values e t halt ending (inr (inl x)) =
-      let same : x.command ≡ c = same_command (command_of r.words) x.command c x.words e in
+  by_stop c values words_are told halt ending (inr (inl stopped)) =
+      let same : stopped.command ≡ c = same_command (command_of r.words) stopped.command c stopped.words words_are in
       let stops =
-      subst (λ d. StopsReading None (files_of d) r.shelf.old.history r.shelf.new.history halt) same x.stops in
+      subst (λ d. StopsReading None (files_of d) r.shelf.old.history r.shelf.new.history halt) same stopped.stops in
       inr (inl (of_memory halt (none_stops r.shelf.old r.shelf.new k calm.shelf None
-      (files_of c) r.shelf.old.history [] values halt refl t stops) ending))
-  by_stop c values e t halt ending (inr (inr x)) = has c values e t x.command x.values x.has
+      (files_of c) r.shelf.old.history [] values halt refl told stops) ending))
+  by_stop c values words_are told halt ending (inr (inr stopped)) =
+      has c values words_are told stopped.command stopped.values stopped.has
 
   -- the same for any run, by how it ends
   comes : (c : Command) (values : List Value) → command_of r.words ≡ Some c →
       AreTold r.shelf.old.stands None (files_of c) values → EndsRun r → Comes c values
-  comes c values e t (inl (text, x)) = has c values e t x.prints.command x.prints.values x.prints.has
-  comes c values e t (inr (inl (halt, x))) = by_stop c values e t halt x.ending x.stops
-  comes c values e t (inr (inr (inl x))) = inr (inr x.follows)
-  comes c values e t (inr (inr (inr x))) = inr (inr x.follows)
+  comes c values words_are told (inl (text, ended)) = has c values words_are told ended.prints.command
+      ended.prints.values ended.prints.has
+  comes c values words_are told (inr (inl (halt, ended))) = by_stop c values words_are told halt ended.ending
+      ended.stops
+  comes c values words_are told (inr (inr (inl ended))) = inr (inr ended.follows)
+  comes c values words_are told (inr (inr (inr ended))) = inr (inr ended.follows)
 
   -- for each command but `live`: its files were read, or memory ran out
   asked : (c : Command) (values : List Value) → is_live (Some c) ≡ false → command_of r.words ≡ Some c →
       AreTold r.shelf.old.stands None (files_of c) values →
       ((ws : List Value) × Has r c ws × AllAlike values ws) ⊎ (r.status ≡ 8)
-  asked c values other e t = elim (comes c values e t w.ends) [
-    | inl h ↦ inl h
+  asked c values other words_are told = elim (comes c values words_are told w.ends) [
+    | inl files ↦ inl files
     | inr rest ↦ elim rest [
       | inl memory ↦ inr memory
-      | inr f ↦ absurd (true≢false (ap is_live (sym f.words ∙ e) ∙ other))
+      | inr follows ↦ absurd (true≢false (ap is_live (sym follows.words ∙ words_are) ∙ other))
     ]
   ]
 
@@ -259,10 +264,10 @@ module _ (r : Run) (w : IsLawfulRun r) (k : KeepsShelf r.shelf.old r.shelf.new) 
       command_of r.words ≡ Some (make graph) →
       AreTold r.shelf.old.stands None (file GraphFile graph ∷ []) (graph_value a ∷ []) →
       ((b : Admission) × AsksRun r (make graph) (graph_value b ∷ []) × AreAlike a b) ⊎ (r.status ≡ 8)
-  of_graph make graph a other files e t = elim (asked (make graph) (graph_value a ∷ []) other e
-      (subst (λ fs. AreTold r.shelf.old.stands None fs (graph_value a ∷ [])) (sym files) t)) [
-        | inl h ↦ (let b = graph_alone a h.0 h.2 in
-            inl (b.0, record { has = subst (Has r (make graph)) b.1 h.1; faultless = faultless }, b.2))
+  of_graph make graph a other files found are_told = elim (asked (make graph) (graph_value a ∷ []) other found
+      (subst (λ fs. AreTold r.shelf.old.stands None fs (graph_value a ∷ [])) (sym files) are_told)) [
+        | inl had ↦ (let read = graph_alone a had.0 had.2 in
+            inl (read.0, record { has = subst (Has r (make graph)) read.1 had.1; faultless = faultless }, read.2))
         | inr memory ↦ inr memory
       ]
 
@@ -270,16 +275,21 @@ module _ (r : Run) (w : IsLawfulRun r) (k : KeepsShelf r.shelf.old r.shelf.new) 
   -- out
   tables_asked : (a : Admission) → Asks (told_of r) a →
       ((b : Admission) × AsksForTables r b × AreAlike a b) ⊎ (r.status ≡ 8)
-  tables_asked a q =
-      let t : AreTold r.shelf.old.stands None (file GraphFile q.graph ∷ []) (graph_value a ∷ []) =
-      (q.bytes, q.told, q.file.short, (a, refl, record { says = q.file.says; admitted = q.file.admitted }), tt) in
-      elim q.words [
-        | inl show ↦ elim (of_graph Show q.graph a refl refl show t) [
-          | inl h ↦ inl (h.0, (q.graph, inl h.1), h.2)
+  tables_asked a asks =
+      let told : AreTold r.shelf.old.stands None (file GraphFile asks.graph ∷ []) (graph_value a ∷ []) = (
+        asks.bytes,
+        asks.told,
+        asks.file.short,
+        (a, refl, record { says = asks.file.says; admitted = asks.file.admitted }),
+        tt,
+      ) in
+      elim asks.words [
+        | inl show ↦ elim (of_graph Show asks.graph a refl refl show told) [
+          | inl asked_for ↦ inl (asked_for.0, (asks.graph, inl asked_for.1), asked_for.2)
           | inr memory ↦ inr memory
         ]
-        | inr pack ↦ elim (of_graph Compile q.graph a refl refl pack t) [
-          | inl h ↦ inl (h.0, (q.graph, inr h.1), h.2)
+        | inr pack ↦ elim (of_graph Compile asks.graph a refl refl pack told) [
+          | inl asked_for ↦ inl (asked_for.0, (asks.graph, inr asked_for.1), asked_for.2)
           | inr memory ↦ inr memory
         ]
       ]
@@ -287,7 +297,7 @@ module _ (r : Run) (w : IsLawfulRun r) (k : KeepsShelf r.shelf.old r.shelf.new) 
   -- a graph with an item `x` that is too wide under its urgency order is rejected as such, with 6
   pub wide : (a : Admission) (x : ℕ) → Asks (told_of r) a → a.graph.order ≡ None →
       IsWide a.graph (first_order a.graph a.order) x → Answer 6
-  wide a x q ungiven is = elim (tables_asked a q) [
+  wide a x asks ungiven is = elim (tables_asked a asks) [
     | inl h ↦ w.wide h.0 x h.1 (moved_on a h.0 h.2 (λ g o. g.order ≡ None) ungiven)
         (moved_on a h.0 h.2 (λ g o. IsWide g (first_order g o) x) is)
     | inr memory ↦ inr memory
@@ -298,30 +308,39 @@ module _ (r : Run) (w : IsLawfulRun r) (k : KeepsShelf r.shelf.old r.shelf.new) 
   as_wide a b same n answer = elim answer [
     | inl e ↦ inl e
     | inr refused ↦
-        inr (record { status = refused.status; item = refused.item; wide = moved a b same (λ g o. IsWide g (first_order g o) refused.item) refused.wide })
+        inr (record {
+          status = refused.status;
+          item = refused.item;
+          wide = moved a b same (λ g o. IsWide g (first_order g o) refused.item) refused.wide;
+        })
   ]
 
   -- a timely graph is compiled, with 0, or rejected as too wide
   pub made : (a : Admission) → Asks (told_of r) a → IsTimely a.graph a.order → Answer 0 ⊎ WideTold (told_of r) a
-  made a q timely = elim (tables_asked a q) [
+  made a asks timely = elim (tables_asked a asks) [
     | inl h ↦ as_wide a h.0 h.2 0 (w.made h.0 h.1 (moved_on a h.0 h.2 IsTimely timely))
     | inr memory ↦ inl (inr memory)
   ]
 
   -- a late graph is rejected as late, with 5, or as too wide
   pub late : (a : Admission) → Asks (told_of r) a → IsLate a.graph a.order → Answer 5 ⊎ WideTold (told_of r) a
-  late a q is = elim (tables_asked a q) [
+  late a asks is = elim (tables_asked a asks) [
     | inl h ↦ as_wide a h.0 h.2 5 (w.late h.0 h.1 (moved_on a h.0 h.2 IsLate is))
     | inr memory ↦ inl (inr memory)
   ]
 
   -- a graph is tuned, with 0
   pub tuned : (a : Admission) → AsksTuning (told_of r) a → Answer 0
-  tuned a q = elim (of_graph Tune q.graph a refl refl q.words
-      (q.bytes, q.told, q.file.short, (a, refl, record { says = q.file.says; admitted = q.file.admitted }), tt)) [
-        | inl h ↦ w.tuned q.graph h.0 h.1
-        | inr memory ↦ inr memory
-      ]
+  tuned a asks = elim (of_graph Tune asks.graph a refl refl asks.words (
+    asks.bytes,
+    asks.told,
+    asks.file.short,
+    (a, refl, record { says = asks.file.says; admitted = asks.file.admitted }),
+    tt,
+  )) [
+    | inl h ↦ w.tuned asks.graph h.0 h.1
+    | inr memory ↦ inr memory
+  ]
 
   -- ---- tables that are judged
 
@@ -329,83 +348,125 @@ module _ (r : Run) (w : IsLawfulRun r) (k : KeepsShelf r.shelf.old r.shelf.new) 
   -- the command: `check`, `play` or `audit`; the values of its files are alike to those that the shelf reports.
   verdict_asked : (a : Admission) (t : Tables) → AsksVerdict (told_of r) a t →
       ((b : Admission) × AsksVerdictRun r b t × AreAlike a b) ⊎ (r.status ≡ 8)
-  -- in each case the values that the files say are alike to those that the shelf reports (`b`, `u`, `p`)
-  verdict_asked a t q =
-      let graph_told = graph_tells None q.bytes a q.file in
-      let pack_told = pack_tells (Some a.graph) t q.lawful in
-      let short = all_short t q.lawful in
-      elim q.words [
+  -- in each case the values that the files say are alike to those that the shelf reports (`graph_read`, `tables_read`,
+  -- `play_read`, `log_read`)
+  verdict_asked a t asking =
+      let graph_told = graph_tells None asking.bytes a asking.file in
+      let pack_told = pack_tells (Some a.graph) t asking.lawful in
+      let short = all_short t asking.lawful in
+      elim asking.words [
         -- `check`: a graph that is alike, and the same tables
-        | inl check ↦ elim (asked (Check q.graph q.pack) (graph_value a ∷ tables_value t ∷ []) refl check
-            (q.bytes, q.told, q.file.short, graph_told, (spelling t, q.spelled, short, pack_told, tt))) [
-              | inl h ↦ (
-                  let b = graph_first a (tables_value t ∷ []) h.0 h.2 in
-                  let u = tables_alone t b.1 b.4 in
+        | inl check ↦ elim (asked (Check asking.graph asking.pack) (graph_value a ∷ tables_value t ∷ [])
+            refl check (
+              asking.bytes,
+              asking.told,
+              asking.file.short,
+              graph_told,
+              (spelling t, asking.spelled, short, pack_told, tt),
+            )) [
+              | inl values ↦ (
+                  let graph_read = graph_first a (tables_value t ∷ []) values.0 values.2 in
+                  let tables_read = tables_alone t graph_read.1 graph_read.4 in
                   inl (
-                    b.0,
+                    graph_read.0,
                     (
-                      q.graph,
-                      q.pack,
-                      inl (record { has = subst (Has r (Check q.graph q.pack)) (b.2 ∙ ap (λ vs. graph_value b.0 ∷ vs) u) h.1; faultless = faultless }),
+                      asking.graph,
+                      asking.pack,
+                      inl (record {
+                        has = subst (Has r (Check asking.graph asking.pack))
+                            (graph_read.2 ∙ ap (λ vs. graph_value graph_read.0 ∷ vs) tables_read) values.1;
+                        faultless = faultless;
+                      }),
                     ),
-                    b.3,
+                    graph_read.3,
                   ))
               | inr memory ↦ inr memory
             ]
         | inr rest ↦ elim rest [
           -- `play`: also what is played, which is the same
-          | inl play ↦ (let n = play.3 in let c = Play q.graph q.pack play.0 play.1 in
-              elim (asked c (graph_value a ∷ tables_value t ∷ played_value n.played ∷ []) refl play.2 (
-                q.bytes,
-                q.told,
-                q.file.short,
+          | inl play ↦ (let told_play = play.3 in let command =
+              Play asking.graph asking.pack play.0 play.1 in
+              elim (asked command (graph_value a ∷ tables_value t ∷ played_value told_play.played ∷ []) refl play.2 (
+                asking.bytes,
+                asking.told,
+                asking.file.short,
                 graph_told,
-                (spelling t, q.spelled, short, pack_told, (n.bytes, n.told, n.short, (n.played, refl, n.says), tt)),
+                (
+                  spelling t,
+                  asking.spelled,
+                  short,
+                  pack_told,
+                  (
+                    told_play.bytes,
+                    told_play.told,
+                    told_play.short,
+                    (told_play.played, refl, told_play.says),
+                    tt,
+                  ),
+                ),
               )) [
-                | inl h ↦ (
-                    let b = graph_first a (tables_value t ∷ played_value n.played ∷ []) h.0 h.2 in
-                    let u = tables_first t (played_value n.played ∷ []) b.1 b.4 in
-                    let p = played_alone n.played u.0 u.2 in
-                    let same = b.2 ∙ ap (λ vs. graph_value b.0 ∷ vs) (u.1 ∙ ap (λ vs. tables_value t ∷ vs) p.1) in
+                | inl values ↦ (
+                    let graph_read =
+                    graph_first a (tables_value t ∷ played_value told_play.played ∷ []) values.0 values.2 in
+                    let tables_read = tables_first t (played_value told_play.played ∷ []) graph_read.1 graph_read.4 in
+                    let play_read = played_alone told_play.played tables_read.0 tables_read.2 in
+                    let same = graph_read.2 ∙ ap (λ vs. graph_value graph_read.0 ∷ vs)
+                    (tables_read.1 ∙ ap (λ vs. tables_value t ∷ vs) play_read.1) in
                     inl (
-                      b.0,
+                      graph_read.0,
                       (
-                        q.graph,
-                        q.pack,
-                        inr (inl (record { scenario = play.0; turns = play.1; played = p.0; asks = record { has = subst (Has r c) same h.1; faultless = faultless } })),
+                        asking.graph,
+                        asking.pack,
+                        inr (inl (record {
+                          scenario = play.0;
+                          turns = play.1;
+                          played = play_read.0;
+                          asks = record { has = subst (Has r command) same values.1; faultless = faultless };
+                        })),
                       ),
-                      b.3,
+                      graph_read.3,
                     ))
                 | inr memory ↦ inr memory
               ])
           -- `audit`: also a log, which may be another
-          | inr audit ↦ (let n = audit.2 in let c = Audit q.graph q.pack audit.0 in
-              elim (asked c (graph_value a ∷ tables_value t ∷ log_value n.log ∷ []) refl audit.1 (
-                q.bytes,
-                q.told,
-                q.file.short,
+          | inr audit ↦ (let told_log = audit.2 in let command = Audit asking.graph asking.pack audit.0 in
+              elim (asked command (graph_value a ∷ tables_value t ∷ log_value told_log.log ∷ []) refl audit.1 (
+                asking.bytes,
+                asking.told,
+                asking.file.short,
                 graph_told,
                 (
                   spelling t,
-                  q.spelled,
+                  asking.spelled,
                   short,
                   pack_told,
-                  (n.bytes, n.told, n.short, (n.log, refl, record { says = n.says; lawful = n.says.lawful }), tt),
+                  (
+                    told_log.bytes,
+                    told_log.told,
+                    told_log.short,
+                    (told_log.log, refl, record { says = told_log.says; lawful = told_log.says.lawful }),
+                    tt,
+                  ),
                 ),
               )) [
-                | inl h ↦ (
-                    let b = graph_first a (tables_value t ∷ log_value n.log ∷ []) h.0 h.2 in
-                    let u = tables_first t (log_value n.log ∷ []) b.1 b.4 in
-                    let p = log_alone n.log u.0 u.2 in
-                    let same = b.2 ∙ ap (λ vs. graph_value b.0 ∷ vs) (u.1 ∙ ap (λ vs. tables_value t ∷ vs) p.1) in
+                | inl values ↦ (
+                    let graph_read = graph_first a (tables_value t ∷ log_value told_log.log ∷ []) values.0 values.2 in
+                    let tables_read = tables_first t (log_value told_log.log ∷ []) graph_read.1 graph_read.4 in
+                    let log_read = log_alone told_log.log tables_read.0 tables_read.2 in
+                    let same = graph_read.2 ∙ ap (λ vs. graph_value graph_read.0 ∷ vs)
+                    (tables_read.1 ∙ ap (λ vs. tables_value t ∷ vs) log_read.1) in
                     inl (
-                      b.0,
+                      graph_read.0,
                       (
-                        q.graph,
-                        q.pack,
-                        inr (inr (record { path = audit.0; log = p.0; asks = record { has = subst (Has r c) same h.1; faultless = faultless } })),
+                        asking.graph,
+                        asking.pack,
+                        inr (inr (record {
+                          path = audit.0;
+                          log = log_read.0;
+                          asks = record { has = subst (Has r command) same values.1; faultless = faultless };
+                        })),
                       ),
-                      b.3,
+                      graph_read.3,
                     ))
                 | inr memory ↦ inr memory
               ])
@@ -414,7 +475,7 @@ module _ (r : Run) (w : IsLawfulRun r) (k : KeepsShelf r.shelf.old r.shelf.new) 
 
   -- tables `t` of another graph than `a` are rejected, with 4
   pub other : (a : Admission) (t : Tables) → AsksVerdict (told_of r) a t → (IsHeadFor a.graph t.head → ⊥) → Answer 4
-  other a t q differs = elim (verdict_asked a t q) [
+  other a t asks differs = elim (verdict_asked a t asks) [
     | inl h ↦ w.other h.0 t h.1 (moved_on a h.0 h.2 (λ g o. IsHeadFor g t.head → ⊥) differs)
     | inr memory ↦ inr memory
   ]
@@ -422,7 +483,7 @@ module _ (r : Run) (w : IsLawfulRun r) (k : KeepsShelf r.shelf.old r.shelf.new) 
   -- valid tables `t` of the graph are accepted, with 0
   pub safe : (a : Admission) (t : Tables) → AsksVerdict (told_of r) a t → IsHeadFor a.graph t.head →
       IsValid a.graph t.nodes → Answer 0
-  safe a t q head valid = elim (verdict_asked a t q) [
+  safe a t asks head valid = elim (verdict_asked a t asks) [
     | inl h ↦ w.safe h.0 t h.1 (moved_on a h.0 h.2 (λ g o. IsHeadFor g t.head) head)
         (moved_on a h.0 h.2 (λ g o. IsValid g t.nodes) valid)
     | inr memory ↦ inr memory
@@ -431,7 +492,7 @@ module _ (r : Run) (w : IsLawfulRun r) (k : KeepsShelf r.shelf.old r.shelf.new) 
   -- tables `t` of the graph that break a rule are found unsafe, with 7
   pub broken : (a : Admission) (t : Tables) → AsksVerdict (told_of r) a t → IsHeadFor a.graph t.head →
       (IsValid a.graph t.nodes → ⊥) → Answer 7
-  broken a t q head invalid = elim (verdict_asked a t q) [
+  broken a t asks head invalid = elim (verdict_asked a t asks) [
     | inl h ↦ w.broken h.0 t h.1 (moved_on a h.0 h.2 (λ g o. IsHeadFor g t.head) head)
         (moved_on a h.0 h.2 (λ g o. IsValid g t.nodes → ⊥) invalid)
     | inr memory ↦ inr memory
@@ -453,15 +514,15 @@ module _ (r : Run) (w : IsLawfulRun r) (k : KeepsShelf r.shelf.old r.shelf.new) 
   -- the table of a node that has the name is printed, with 0
   pub named : (t : Tables) (name : Text) (node : ℕ) → AsksNode (told_of r) t name →
       first_named t.head name ≡ Some node → Answer 0
-  named t name node q is = elim (node_asked t name q) [
-    | inl h ↦ w.named q.pack name t node h is
+  named t name node asks is = elim (node_asked t name asks) [
+    | inl h ↦ w.named asks.pack name t node h is
     | inr memory ↦ inr memory
   ]
 
   -- a name that no node has is rejected, with 4
   pub nameless : (t : Tables) (name : Text) → AsksNode (told_of r) t name → first_named t.head name ≡ None → Answer 4
-  nameless t name q is = elim (node_asked t name q) [
-    | inl h ↦ w.nameless q.pack name t h is
+  nameless t name asks is = elim (node_asked t name asks) [
+    | inl h ↦ w.nameless asks.pack name t h is
     | inr memory ↦ inr memory
   ]
 
@@ -478,15 +539,17 @@ module _ (r : Run) (w : IsLawfulRun r) (k : KeepsShelf r.shelf.old r.shelf.new) 
   -- parts that have a graph of all their instances are unrolled, with 0
   pub unrolled : (parts : List Part) (g : Graph) → AsksUnrolling (told_of r) parts → ShowsUnrolled parts (Ok g) →
       Answer 0
-  unrolled parts g q shows = elim (unrolling_asked parts q) [
-    | inl h ↦ w.unrolled q.pairs parts g h (parts_told r.shelf.old.stands q.pairs parts q.told).1 shows
+  unrolled parts g asks shows = elim (unrolling_asked parts asks) [
+    | inl h ↦ w.unrolled asks.pairs parts g h (parts_told r.shelf.old.stands asks.pairs parts
+        asks.told).1 shows
     | inr memory ↦ inr memory
   ]
 
   -- parts that are refused are rejected, with 4
   pub apart : (parts : List Part) (fault : HyperFault) → AsksUnrolling (told_of r) parts →
       ShowsUnrolled parts (Err fault) → fault ≢ OutOfMemory → Answer 4
-  apart parts fault q shows told = elim (unrolling_asked parts q) [
-    | inl h ↦ w.apart q.pairs parts fault h (parts_told r.shelf.old.stands q.pairs parts q.told).1 shows told
+  apart parts fault asks shows told = elim (unrolling_asked parts asks) [
+    | inl h ↦ w.apart asks.pairs parts fault h (parts_told r.shelf.old.stands asks.pairs parts
+        asks.told).1 shows told
     | inr memory ↦ inr memory
   ]

@@ -35,8 +35,8 @@ use Rattle.cpg_shelf_laws.proofs.Streams.{closed_told, cut_told, lawful_told, re
 -- memory may run out in a run `r`, whatever it was asked, `c`
 asked_memory : (r : Run) (c : Option Command) (halt : Halt) → halt ≡ Memory →
     StopsAsked (seen r.shelf.old r.shelf.new) c halt
-asked_memory r None halt e = inr e
-asked_memory r (Some c) halt e = memory_stops r.shelf.old r.shelf.new c halt e
+asked_memory r None halt same = inr same
+asked_memory r (Some c) halt same = memory_stops r.shelf.old r.shelf.new c halt same
 
 -- given a run that kept its shelf
 module _ (r : Run) (k : KeepsShelf r.shelf.old r.shelf.new) where
@@ -44,7 +44,8 @@ module _ (r : Run) (k : KeepsShelf r.shelf.old r.shelf.new) where
   of_command : (c : Command) (halt : Halt) → command_of r.words ≡ Some c →
       StopsAsked (seen r.shelf.old r.shelf.new) (Some c) halt →
       StopsAsked (seen r.shelf.old r.shelf.new) (command_of r.words) halt
-  of_command c halt e stops = subst (λ asked. StopsAsked (seen r.shelf.old r.shelf.new) asked halt) (sym e) stops
+  of_command c halt found stops =
+      subst (λ asked. StopsAsked (seen r.shelf.old r.shelf.new) asked halt) (sym found) stops
 
   -- If the run stops, the earlier contract has this stop too. By where it stops: in its words, in its files or in its
   -- work.
@@ -65,25 +66,39 @@ module _ (r : Run) (k : KeepsShelf r.shelf.old r.shelf.new) where
   -- an output of the run is one by the earlier contract, too
   pub prints_told : (text : Text) → PrintsRun r text →
       PrintsAsked (seen r.shelf.old r.shelf.new) (command_of r.words) text
-  prints_told text p = subst (λ asked. PrintsAsked (seen r.shelf.old r.shelf.new) asked text) (sym p.has.words)
-      (prints r.shelf.old r.shelf.new k r.words p.command text p.values p.has.words p.has.reads p.puts)
+  prints_told text prints_run =
+      subst (λ asked. PrintsAsked (seen r.shelf.old r.shelf.new) asked text) (sym prints_run.has.words)
+      (prints r.shelf.old r.shelf.new k r.words prints_run.command text prints_run.values prints_run.has.words
+      prints_run.has.reads prints_run.puts)
 
   -- a run that reported its halt did so by the earlier contract, too
   pub told : (halt : Halt) → IsToldRun r halt → IsTold (told_of r) halt
-  told halt t = record { status = t.status; out = t.out.taken; err = t.err.taken }
+  told halt is_told_run =
+      record { status = is_told_run.status; out = is_told_run.out.taken; err = is_told_run.err.taken }
 
   -- a run whose line wasn't written whole is so by the earlier contract, too
   muted : (halt : Halt) → IsMutedRun r halt → IsMuted (told_of r) halt
-  muted halt t = record { status = t.status; out = t.out.taken; err = part_told r.err (line_of halt) t.err }
+  muted halt is_muted_run = record {
+    status = is_muted_run.status;
+    out = is_muted_run.out.taken;
+    err =
+        part_told r.err (line_of halt) is_muted_run.err;
+  }
 
   -- a run whose output was written whole is so by the earlier contract, too
   pub printed : (text : Text) → IsPrintedRun r text → IsPrinted (told_of r) text
-  printed text t = record { status = t.status; out = t.out.taken; err = t.err.taken }
+  printed text is_printed_run =
+      record { status = is_printed_run.status; out = is_printed_run.out.taken; err = is_printed_run.err.taken }
 
   -- a run whose output was cut off is so by the earlier contract, too
   cut : (text : Text) → IsCutRun r text → IsCut (told_of r) text
-  cut text t =
-      record { status = t.status; out = part_told r.out text t.out; err = either_told r.err write_fault_line t.err }
+  cut text is_cut_run =
+      record {
+        status = is_cut_run.status;
+        out = part_told r.out text is_cut_run.out;
+        err =
+            either_told r.err write_fault_line is_cut_run.err;
+      }
 
   -- ---- a stream
 
@@ -115,36 +130,39 @@ module _ (r : Run) (k : KeepsShelf r.shelf.old r.shelf.new) where
   over : (f : FollowsRun r) (fault : StreamFault) (lines : Text) →
       IsRefusedFetch f.tables.head (table_in f) f.fetch fault lines → fault ≡ Long →
       STREAM_LIMIT < given_count r.shelf.new
-  over f fault lines c e = let m = (c.long e).more in let n = (last_of f).count in omega (arith, m, n)
+  over f fault lines is_refused_fetch is_long =
+      let more = (is_refused_fetch.long is_long).more in let count = (last_of f).count in
+      omega (arith, more, count)
 
   -- a stream that the shelf failed to read is one by the earlier contract, too
   pub unread_told : IsUnreadRun r → IsUnreadStream (told_of r)
-  unread_told u = let f = u.follows in record {
-    follows = follows_told f;
-    lines = u.lines;
-    lawful = lawful_told f.tables.head (table_in f) f.fetch (r.shelf.old.stands f.stream)
-        (given_count r.shelf.new) u.lines (last_of f).count (front_of f) u.lawful;
-    out = u.out.taken;
-    err = u.err.taken;
+  unread_told unread = let followed = unread.follows in record {
+    follows = follows_told followed;
+    lines = unread.lines;
+    lawful = lawful_told followed.tables.head (table_in followed) followed.fetch (r.shelf.old.stands followed.stream)
+        (given_count r.shelf.new) unread.lines (last_of followed).count (front_of followed) unread.lawful;
+    out = unread.out.taken;
+    err = unread.err.taken;
   }
 
   -- a stream that was rejected is one by the earlier contract, too
   pub refused_stream_told : IsRefusedRun r → IsRefusedStream (told_of r)
-  refused_stream_told u = let f = u.follows in record {
-    follows = follows_told f;
-    fault = u.fault;
-    lines = u.lines;
-    refused = refused_told f.tables.head (table_in f) f.fetch (r.shelf.old.stands f.stream) u.fault u.lines
-        (front_of f) u.refused;
-    over = over f u.fault u.lines u.refused;
-    out = u.out.taken;
-    err = u.err.taken;
+  refused_stream_told refused_run = let followed = refused_run.follows in record {
+    follows = follows_told followed;
+    fault = refused_run.fault;
+    lines = refused_run.lines;
+    refused = refused_told followed.tables.head (table_in followed) followed.fetch (r.shelf.old.stands followed.stream)
+        refused_run.fault refused_run.lines
+        (front_of followed) refused_run.refused;
+    over = over followed refused_run.fault refused_run.lines refused_run.refused;
+    out = refused_run.out.taken;
+    err = refused_run.err.taken;
   }
 
   -- the lines of a stream that was followed to its close are an output by the earlier contract
   pub closed_prints : (f : FollowsRun r) (lines : Text) → IsClosedFetch f.tables.head (table_in f) f.fetch lines →
       PrintsAsked (seen r.shelf.old r.shelf.new) (command_of r.words) lines
-  closed_prints f lines c =
+  closed_prints f lines is_closed_fetch =
       subst (λ asked. PrintsAsked (seen r.shelf.old r.shelf.new) asked lines) (sym f.words) (record {
         output = (
           f.tables,
@@ -152,10 +170,11 @@ module _ (r : Run) (k : KeepsShelf r.shelf.old r.shelf.new) where
           record {
             node = f.node;
             named = f.named;
-            closed = closed_told f.tables.head (table_in f) f.fetch (r.shelf.old.stands f.stream) lines (front_of f) c;
+            closed = closed_told f.tables.head (table_in f) f.fetch (r.shelf.old.stands f.stream) lines (front_of f)
+                is_closed_fetch;
           },
         );
-        within = (let m = c.short in let n = (last_of f).count in omega (arith, m, n));
+        within = (let short = is_closed_fetch.short in let count = (last_of f).count in omega (arith, short, count));
       })
 
   -- a stream that isn't followed to its close isn't by the earlier contract either, for the same reason
@@ -202,11 +221,11 @@ module _ (r : Run) (k : KeepsShelf r.shelf.old r.shelf.new) where
     },
   ))
   -- it followed a stream to its close
-  ends_told (inr (inr (inl e))) = let c = e.completes in inl (
-    c.0,
+  ends_told (inr (inr (inl ended))) = let completes = ended.completes in inl (
+    completes.0,
     record {
-      prints = closed_prints e.follows c.0 c.1;
-      ending = inl (record { status = e.status; out = c.2.taken; err = e.err.taken });
+      prints = closed_prints ended.follows completes.0 completes.1;
+      ending = inl (record { status = ended.status; out = completes.2.taken; err = ended.err.taken });
     },
   )
   -- it followed a stream, but not to its close

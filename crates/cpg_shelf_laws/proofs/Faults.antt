@@ -20,31 +20,32 @@ use Rattle.cpg_shelf_laws.proofs.Fetched.{last}
 
 -- a history with at least one fetch more isn't the one before
 longer : (f : Fetch) (newer past now : List Fetch) → now ≡ newer ++ f ∷ past → now ≡ past → ⊥
-longer f newer past now is same = let l = ap (λ (h : List Fetch). length h) (sym is ∙ same) in
-    let k = length-append newer (f ∷ past) in
-    omega (arith, l, k)
+longer f newer past now is same = let lengths = ap (λ (h : List Fetch). length h) (sym is ∙ same) in
+    let parts = length-append newer (f ∷ past) in
+    omega (arith, lengths, parts)
 
 -- a reading that stops with halt `h` has fetched something, so the history has changed
 grows : (g : Option Graph) (files : List File) (past now : List Fetch) (h : Halt) →
     StopsReading g files past now h → now ≡ past → ⊥
-grows g [] past now h s same = absurd s
+grows g [] past now h stops_reading same = absurd stops_reading
 grows g (file ∷ files) past now h (f, inl here) same = longer f [] past now here.1 same
 grows g (file ∷ files) past now h (f, inr (v, read, there)) same =
-    let x = stops_grown (graph_after g v) files (f ∷ past) now h there in
-    longer f x.fetches past now x.is same
+    let later = stops_grown (graph_after g v) files (f ∷ past) now h there in
+    longer f later.fetches past now later.is same
 
 -- given a run that kept its shelf
 module _ (r : Run) (k : KeepsShelf r.shelf.old r.shelf.new) where
   -- a run that stops with a read fault has fetched something, as it stops neither in its words nor in its work
   not_same : StopsRun r Read → r.shelf.new.history ≡ r.shelf.old.history → ⊥
-  not_same (inl s) same = elim s.cause [
-    | inl words ↦ absurd (let e = ap status_of words.0 in omega (arith, e))
-    | inr memory ↦ absurd (let e = ap status_of memory in omega (arith, e))
+  not_same (inl stopped) same = elim stopped.cause [
+    | inl words ↦ absurd (let status = ap status_of words.0 in omega (arith, status))
+    | inr memory ↦ absurd (let status = ap status_of memory in omega (arith, status))
   ]
-  not_same (inr (inl s)) same = grows _ (files_of s.command) r.shelf.old.history r.shelf.new.history Read s.stops same
-  not_same (inr (inr s)) same = elim s.stops [
-    | inl stops ↦ absurd (let l = of_work s.command s.values Read stops in omega (arith, l))
-    | inr memory ↦ absurd (let e = ap status_of memory in omega (arith, e))
+  not_same (inr (inl stopped)) same = grows _ (files_of stopped.command) r.shelf.old.history r.shelf.new.history Read
+      stopped.stops same
+  not_same (inr (inr stopped)) same = elim stopped.stops [
+    | inl stops ↦ absurd (let later = of_work stopped.command stopped.values Read stops in omega (arith, later))
+    | inr memory ↦ absurd (let status = ap status_of memory in omega (arith, status))
   ]
 
   -- if a run ends with status 2, the shelf's count of faults rose, as its last fetch is new and failed

@@ -16,8 +16,8 @@ use Rattle.cpg_shelf_laws.specs.Causes.{IsShort}
 -- if `P` implies `Q`, and `P` holds of the bytes that the shelf reports, if it does, so does `Q`
 pub on_some : (told : Option Text) (P Q : Text → Type 0) → ((bytes : Text) → P bytes → Q bytes) → IfSome told P →
     IfSome told Q
-on_some None P Q f p = tt
-on_some (Some bytes) P Q f p = f bytes p
+on_some None P Q each p = tt
+on_some (Some bytes) P Q each p = each bytes p
 
 -- the shelf reports these bytes, if it reports any
 abbrev pub TellsAs : Option Text → Text → Type 0
@@ -35,8 +35,8 @@ told_says told given P alike p = on_some told (λ bytes. bytes ≡ given) P (λ 
 
 -- if `P` holds of all fetches, it holds of `f`, which is among them
 all_at : (P : Fetch → Type 0) (newer : List Fetch) (f : Fetch) (older : List Fetch) → All P (newer ++ f ∷ older) → P f
-all_at P [] f older h = All-head P f older h
-all_at P (x ∷ newer) f older h = all_at P newer f older (All-tail P x (newer ++ f ∷ older) h)
+all_at P [] f older each = All-head P f older each
+all_at P (x ∷ newer) f older each = all_at P newer f older (All-tail P x (newer ++ f ∷ older) each)
 
 -- a fetch of a history that has grown since a base
 pub record IsIn (base now : List Fetch) (f : Fetch) : Type 0 where
@@ -47,7 +47,8 @@ pub record IsIn (base now : List Fetch) (f : Fetch) : Type 0 where
 
 -- a history with at least one fetch more isn't the one before
 longer : (f : Fetch) (older base : List Fetch) → f ∷ (older ++ base) ≡ base → ⊥
-longer f older base e = let l = ap length e in let k = length-append older base in omega (arith, l, k)
+longer f older base same = let lengths = ap length same in let parts = length-append older base in
+    omega (arith, lengths, parts)
 
 -- what is so of the newest fetch of a run: it gave as many bytes as the shelf counts, raised the count of faults if it
 -- failed, and gave what the shelf reports
@@ -63,12 +64,12 @@ pub record IsLast (old new : ShelfState) (f : Fetch) : Type 0 where
 module _ (old new : ShelfState) (k : KeepsShelf old new) where
   -- each fetch of the run gave what the shelf reports under its name, as far as it went
   pub agreed : (f : Fetch) → IsIn old.history new.history f → Agrees old.stands f
-  agreed f i =
-      let x = k.fetched in
-      let same : x.fetches ++ old.history ≡ (i.newer ++ f ∷ i.older) ++ old.history =
-      sym x.history ∙ i.is ∙ sym (append_assoc i.newer (f ∷ i.older) old.history) in
-      all_at (Agrees old.stands) i.newer f i.older (subst (All (Agrees old.stands))
-      (append_cancel_right x.fetches (i.newer ++ f ∷ i.older) old.history same) x.agree)
+  agreed f place =
+      let since = k.fetched in
+      let same : since.fetches ++ old.history ≡ (place.newer ++ f ∷ place.older) ++ old.history =
+      sym since.history ∙ place.is ∙ sym (append_assoc place.newer (f ∷ place.older) old.history) in
+      all_at (Agrees old.stands) place.newer f place.older (subst (All (Agrees old.stands))
+      (append_cancel_right since.fetches (place.newer ++ f ∷ place.older) old.history same) since.agree)
 
   -- the newest fetch of the run is as `IsLast` says
   pub last : (f : Fetch) (older : List Fetch) → new.history ≡ f ∷ (older ++ old.history) → IsLast old new f
@@ -83,20 +84,21 @@ module _ (old new : ShelfState) (k : KeepsShelf old new) where
 
 -- a fetch that gave a front of these bytes and came to their end gave all of them
 whole_front : (bytes : Text) (f : Fetch) → f.ended ≡ true → IsFrontOf bytes f → bytes ≡ f.given
-whole_front bytes f ended h = h.front ∙ ap (λ rest. f.given ++ rest) (h.all ended) ∙ append-nil f.given
+whole_front bytes f ended is_front_of =
+    is_front_of.front ∙ ap (λ rest. f.given ++ rest) (is_front_of.all ended) ∙ append-nil f.given
 
 -- a fetch that gave a whole file gave just what the shelf reports of it
 pub tells_whole : (stands : Text → Option Text) (file : File) (f : Fetch) → IsWhole file f → Agrees stands f →
     TellsAs (stands file.name) f.given
-tells_whole stands file f w agrees = subst (λ name. TellsAs (stands name) f.given) w.named
+tells_whole stands file f whole agrees = subst (λ name. TellsAs (stands name) f.given) whole.named
     (on_some (stands f.name) (λ bytes. IsFrontOf bytes f) (λ bytes. bytes ≡ f.given)
-    (λ bytes h. whole_front bytes f w.ended h) agrees)
+    (λ bytes front. whole_front bytes f whole.ended front) agrees)
 
 -- if more than the limit was given, the bytes are more than the limit too
 long_front : (bytes : Text) (f : Fetch) (limit : ℕ) → limit < length f.given → IsFrontOf bytes f → limit < length bytes
-long_front bytes f limit over h = let l = ap (λ (b : Text). length b) h.front in
-    let k = length-append f.given h.rest in
-    omega (arith, over, l, k)
+long_front bytes f limit over front = let lengths = ap (λ (b : Text). length b) front.front in
+    let parts = length-append f.given front.rest in
+    omega (arith, over, lengths, parts)
 
 -- a byte more than a limit is more than it
 pub more : (count limit : ℕ) → count ≡ limit + 1 → limit < count

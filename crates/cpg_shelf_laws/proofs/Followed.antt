@@ -67,7 +67,7 @@ node_or d (Some n) = n
 
 -- an option isn't both `None` and some node
 not_both_named : (o : Option ℕ) (n : ℕ) → o ≡ None → o ≡ Some n → ⊥
-not_both_named o n e f = true≢false (ap is_some (sym f ∙ e))
+not_both_named o n none found = true≢false (ap is_some (sym found ∙ none))
 
 -- Given a lawful run that is asked to follow a stream, whose shelf reports the pack and the stream, and in which
 -- nothing failed.
@@ -112,8 +112,8 @@ module _ (r : Run) (w : IsLawfulRun r) (k : KeepsShelf r.shelf.old r.shelf.new) 
 
   -- the values `ws` of the command `c` are the tables
   value_is : (c : Command) (ws : List Value) → c ≡ Live q.pack name q.stream → Has r c ws → ws ≡ tables_value t ∷ []
-  value_is c ws e h =
-      let also : Has r (Live q.pack name q.stream) ws = subst (λ c. Has r c ws) e h in
+  value_is c ws same has =
+      let also : Has r (Live q.pack name q.stream) ws = subst (λ c. Has r c ws) same has in
       tables_alone t ws (read_as_told r.shelf.old r.shelf.new k None (file PackFile q.pack ∷ []) r.shelf.old.history []
       (tables_value t ∷ []) ws refl told also.reads)
 
@@ -149,7 +149,7 @@ module _ (r : Run) (w : IsLawfulRun r) (k : KeepsShelf r.shelf.old r.shelf.new) 
   -- `live` puts out no text
   no_text : (c : Command) (values : List Value) (text : Text) → c ≡ Live q.pack name q.stream → PutsOut c values text →
       ⊥
-  no_text c values text e puts = subst (λ c. PutsOut c values text) e puts
+  no_text c values text same puts = subst (λ c. PutsOut c values text) same puts
 
   -- ---- it is followed
 
@@ -163,8 +163,8 @@ module _ (r : Run) (w : IsLawfulRun r) (k : KeepsShelf r.shelf.old r.shelf.new) 
     answers : (f : FollowsRun r) (ends : Result ℕ StreamFault) → stream_end (table_of f) bytes ≡ ends →
         r.status ≡ status_of_end ends →
         r.status ≡ status_of_end (stream_end (table_at t.nodes node) bytes)
-    answers f ends e status =
-        status ∙ sym (ap status_of_end (ap (λ table. stream_end table bytes) (sym (table_is f)) ∙ e))
+    answers f ends same status =
+        status ∙ sym (ap status_of_end (ap (λ table. stream_end table bytes) (sym (table_is f)) ∙ same))
 
     -- the status is that of the end of the stream, as neither the shelf nor `out` met a fault
     in_stream : (f : FollowsRun r) (b : Broken) → Breaks f.tables.head (table_of f) (stream_of r f) b →
@@ -187,28 +187,31 @@ module _ (r : Run) (w : IsLawfulRun r) (k : KeepsShelf r.shelf.old r.shelf.new) 
         by_stop ((r.status ≡ status_of_end (stream_end (table_at t.nodes node) bytes)) ⊎ (r.status ≡ 8)) halt x.stops
         (λ none. absurd (not_both_named _ node none is))
         (λ e. inr (of_memory r w k q.faultless halt e x.ending))
-    followed (inr (inr (inl x))) = let f = x.follows in
-        let c = x.completes in
-        inl (answers f (Ok c.1.time) (closed_ends f.tables.head (table_of f) f.fetch bytes c.0 (front f) c.1) x.status)
+    followed (inr (inr (inl ended))) = let follows = ended.follows in
+        let completes = ended.completes in
+        inl (answers follows (Ok completes.1.time) (closed_ends follows.tables.head (table_of follows) follows.fetch
+        bytes completes.0 (front follows) completes.1) ended.status)
     followed (inr (inr (inr x))) = inl (in_stream x.follows x.broken x.breaks x.said)
 
   -- ---- no node has the name
 
   -- if the run stops in its words, memory ran out, so its status is 8
   of_words : (halt : Halt) → (IsToldRun r halt ⊎ IsMutedRun r halt) → StopsInWords r halt → r.status ≡ 8
-  of_words halt ending x = elim x.cause [
+  of_words halt ending stops_in_words = elim stops_in_words.cause [
     | inl formless ↦ absurd (no_command (Live q.pack name q.stream) (sym formless.1 ∙ q.words))
     | inr e ↦ of_memory r w k q.faultless halt e ending
   ]
 
   -- if the run stops in its files, memory ran out, so its status is 8
   of_files : (halt : Halt) → (IsToldRun r halt ⊎ IsMutedRun r halt) → StopsInFiles r halt → r.status ≡ 8
-  of_files halt ending x =
-      let same : x.command ≡ Live q.pack name q.stream =
-      same_command (command_of r.words) x.command (Live q.pack name q.stream) x.words q.words in
+  of_files halt ending stops_in_files =
+      let same : stops_in_files.command ≡ Live q.pack name q.stream =
+      same_command (command_of r.words) stops_in_files.command (Live q.pack name q.stream) stops_in_files.words
+      q.words in
       of_memory r w k q.faultless halt (none_stops r.shelf.old r.shelf.new k q.faultless.shelf None
       (file PackFile q.pack ∷ []) r.shelf.old.history [] (tables_value t ∷ []) halt refl told
-      (subst (λ d. StopsReading None (files_of d) r.shelf.old.history r.shelf.new.history halt) same x.stops)) ending
+      (subst (λ d. StopsReading None (files_of d) r.shelf.old.history r.shelf.new.history halt) same
+      stops_in_files.stops)) ending
 
   -- if no node has the name, a run that stops has status 4, or 8 as memory ran out
   by_halt : first_named t.head name ≡ None → (halt : Halt) → (IsToldRun r halt ⊎ IsMutedRun r halt) → StopsRun r halt →

@@ -29,12 +29,12 @@ module _ (r : Run) (w : IsLawfulRun r) (k : KeepsShelf r.shelf.old r.shelf.new) 
 
   -- with status 0 the run prints its text: that of its command, or all lines of a stream up to its close
   done : r.status ≡ 0 → (text : Text) × Prints (seen r.shelf.old r.shelf.new) r.words text × IsPrinted (told_of r) text
-  done e = elim (w.done e) [
+  done same = elim (w.done same) [
     | inl p ↦ (p.0, prints_told r k p.0 p.1, printed r k p.0 p.2)
     | inr c ↦ (
       c.lines,
       closed_prints r k c.follows c.lines c.closed,
-      record { status = e; out = c.out.taken; err = c.err.taken },
+      record { status = same; out = c.out.taken; err = c.err.taken },
     )
   ]
 
@@ -42,7 +42,7 @@ module _ (r : Run) (w : IsLawfulRun r) (k : KeepsShelf r.shelf.old r.shelf.new) 
   refused : r.status ≡ 4 →
       ((refusal : Refusal) × Stops (seen r.shelf.old r.shelf.new) r.words (Refused refusal) ×
       IsTold (told_of r) (Refused refusal)) ⊎ IsRefusedStream (told_of r)
-  refused e = elim (w.refused e) [
+  refused same = elim (w.refused same) [
     | inl p ↦ inl (p.0, stops_told r k (Refused p.0) p.1, told r k (Refused p.0) p.2)
     | inr s ↦ inr (refused_stream_told r k s)
   ]
@@ -51,26 +51,34 @@ module _ (r : Run) (w : IsLawfulRun r) (k : KeepsShelf r.shelf.old r.shelf.new) 
   is_late : r.status ≡ 5 →
       (a : Admission) × (s : Scenario) × (p : ℕ) × (finish : ℕ) ×
       Stops (seen r.shelf.old r.shelf.new) r.words (Late a s p finish) × IsTold (told_of r) (Late a s p finish)
-  is_late e = let p = w.is_late e in
-      (p.0, p.1, p.2, p.3, stops_told r k (Late p.0 p.1 p.2 p.3) p.4, told r k (Late p.0 p.1 p.2 p.3) p.5)
+  is_late five = let found = w.is_late five in (
+    found.0,
+    found.1,
+    found.2,
+    found.3,
+    stops_told r k (Late found.0 found.1 found.2 found.3) found.4,
+    told r k (Late found.0 found.1 found.2 found.3) found.5,
+  )
 
   -- with status 6 the run stops as an item `x` is too wide
   is_wide : r.status ≡ 6 →
       (a : Admission) × (x : ℕ) × Stops (seen r.shelf.old r.shelf.new) r.words (TooWide a x) ×
       IsTold (told_of r) (TooWide a x)
-  is_wide e = let p = w.is_wide e in (p.0, p.1, stops_told r k (TooWide p.0 p.1) p.2, told r k (TooWide p.0 p.1) p.3)
+  is_wide six = let found = w.is_wide six in
+      (found.0, found.1, stops_told r k (TooWide found.0 found.1) found.2, told r k (TooWide found.0 found.1) found.3)
 
   -- with status 7 the run stops as tables break a rule
   is_unsafe : r.status ≡ 7 →
       (a : Admission) × (fault : Fault) × Stops (seen r.shelf.old r.shelf.new) r.words (Unsafe a fault) ×
       IsTold (told_of r) (Unsafe a fault)
-  is_unsafe e = let p = w.is_unsafe e in (p.0, p.1, stops_told r k (Unsafe p.0 p.1) p.2, told r k (Unsafe p.0 p.1) p.3)
+  is_unsafe seven = let found = w.is_unsafe seven in
+      (found.0, found.1, stops_told r k (Unsafe found.0 found.1) found.2, told r k (Unsafe found.0 found.1) found.3)
 
   -- with a status other than 0 and 3 the output is untouched, or the stream is unread (2) or refused (4)
   silent : r.status ≢ 0 → r.status ≢ 3 →
       Untouched (telling r.out) ⊎
       (((r.status ≡ 2) × IsUnreadStream (told_of r)) ⊎ ((r.status ≡ 4) × IsRefusedStream (told_of r)))
-  silent n m = elim (w.silent n m) [
+  silent not_0 not_3 = elim (w.silent not_0 not_3) [
     | inl untouched ↦ inl untouched.taken
     | inr rest ↦ elim rest [
       | inl u ↦ inr (inl (u.0, unread_told r k u.1))

@@ -29,31 +29,31 @@ HasParts (Some (Audit a b c)) = ⊤
 -- what a form of one word makes of words has parts, if it is `hyper`; so below for each form
 one_has : (make : Text → Command) → ((a : Text) → HasParts (Some (make a))) → (ws ts : List Text) →
     HasParts (one_word make ws ts)
-one_has make h [] ts = tt
-one_has make h (a ∷ []) [] = h a
-one_has make h (a ∷ []) (t ∷ ts) = tt
-one_has make h (a ∷ b ∷ ws) ts = tt
+one_has make each [] ts = tt
+one_has make each (a ∷ []) [] = each a
+one_has make each (a ∷ []) (t ∷ ts) = tt
+one_has make each (a ∷ b ∷ ws) ts = tt
 
 -- the same for a form of two words, `a` and `b`, of which `make` makes the command; `ws` are all words, and `ts` the
 -- turns
 two_have : (make : Text → Text → Command) → ((a b : Text) → HasParts (Some (make a b))) → (ws ts : List Text) →
     HasParts (two_words make ws ts)
-two_have make h [] ts = tt
-two_have make h (a ∷ []) ts = tt
-two_have make h (a ∷ b ∷ []) [] = h a b
-two_have make h (a ∷ b ∷ []) (t ∷ ts) = tt
-two_have make h (a ∷ b ∷ c ∷ ws) ts = tt
+two_have make each [] ts = tt
+two_have make each (a ∷ []) ts = tt
+two_have make each (a ∷ b ∷ []) [] = each a b
+two_have make each (a ∷ b ∷ []) (t ∷ ts) = tt
+two_have make each (a ∷ b ∷ c ∷ ws) ts = tt
 
 -- the same for a form of three words; by the number of words and of values of `--turns`
 three_have : (make : Text → Text → Text → Command) → ((a b c : Text) → HasParts (Some (make a b c))) →
     (ws ts : List Text) →
     HasParts (three_words make ws ts)
-three_have make h [] ts = tt
-three_have make h (a ∷ []) ts = tt
-three_have make h (a ∷ b ∷ []) ts = tt
-three_have make h (a ∷ b ∷ c ∷ []) [] = h a b c
-three_have make h (a ∷ b ∷ c ∷ []) (t ∷ ts) = tt
-three_have make h (a ∷ b ∷ c ∷ d ∷ ws) ts = tt
+three_have make each [] ts = tt
+three_have make each (a ∷ []) ts = tt
+three_have make each (a ∷ b ∷ []) ts = tt
+three_have make each (a ∷ b ∷ c ∷ []) [] = each a b c
+three_have make each (a ∷ b ∷ c ∷ []) (t ∷ ts) = tt
+three_have make each (a ∷ b ∷ c ∷ d ∷ ws) ts = tt
 
 -- the same for `play` with a number, if it is one
 played : (a b c : Text) (n : Option ℕ) → HasParts (option_map (Play a b c) n)
@@ -109,19 +109,20 @@ AllHave (f ∷ fs) = ((ws ts : List Text) → HasParts (f.1 ws ts)) × AllHave f
 found : (p : Parts) (b : Bool) (f : Form) (rest : Option Form) → HasParts (f.1 p.positionals p.turns) →
     HasParts (in_form p rest) →
     HasParts (in_form p (cond b (Some f) rest))
-found p true f rest h k = h
-found p false f rest h k = k
+found p true f rest has_parts k = has_parts
+found p false f rest has_parts k = k
 
 -- the command that a name's form, one of `fs`, makes of parts `p` has parts; by induction on the forms
 named : (fs : List Form) (name : Text) (p : Parts) → AllHave fs → HasParts (command_named fs name p)
-named [] name p h = tt
-named (f ∷ fs) name p h = found p (bytes_eq f.0 name) f _ (h.0 p.positionals p.turns) (named fs name p h.1)
+named [] name p all_have = tt
+named (f ∷ fs) name p all_have = found p (bytes_eq f.0 name) f _ (all_have.0 p.positionals p.turns)
+    (named fs name p all_have.1)
 
 -- the command of the words, if they can be parted (`p`), has parts
 parted : (fs : List Form) (name : Text) (p : Option Parts) → AllHave fs →
     HasParts (option_and_then (command_named fs name) p)
-parted fs name None h = tt
-parted fs name (Some p) h = named fs name p h
+parted fs name None all_have = tt
+parted fs name (Some p) all_have = named fs name p all_have
 
 -- each form of the command line gives commands that have parts
 all_forms : AllHave forms
@@ -155,4 +156,4 @@ have (name ∷ words) = parted forms name (parts_of words) all_forms
 
 -- words that form a command of parts name at least one
 pub some_parts : (words : List Text) (pairs : List Pair) → command_of words ≡ Some (Hyper pairs) → 0 < length pairs
-some_parts words pairs e = subst HasParts e (have words)
+some_parts words pairs found = subst HasParts found (have words)

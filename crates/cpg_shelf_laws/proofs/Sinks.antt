@@ -12,19 +12,19 @@ use Rattle.cpg_shelf_laws.specs.Sinks.{Part, Sent, Whole, telling}
 
 -- a proper part that a sink took by the present contract, it took by the earlier one
 pub part_told : (s : SinkSeenRun) (bytes : List ℕ) → PartRun s bytes → Part (telling s) bytes
-part_told s bytes p = record { rose = p.rose; prefix = p.prefix }
+part_told s bytes part_run = record { rose = part_run.rose; prefix = part_run.prefix }
 
 -- bytes that a sink took whole or in part by the present contract, it took so by the earlier one
 pub either_told : (s : SinkSeenRun) (bytes : List ℕ) → WholeRun s bytes ⊎ PartRun s bytes →
     Whole (telling s) bytes ⊎ Part (telling s) bytes
-either_told s bytes e = elim e [ inl whole ↦ inl whole.taken | inr part ↦ inr (part_told s bytes part) ]
+either_told s bytes either = elim either [ inl whole ↦ inl whole.taken | inr part ↦ inr (part_told s bytes part) ]
 
 -- bytes that were sent to a sink by the present contract were sent by the earlier one
 sent_told : (s : SinkSeenRun) (status wanted : ℕ) (bytes : List ℕ) → SentRun s status wanted bytes →
     Sent (telling s) status wanted bytes
-sent_told s status wanted bytes p = record {
-  whole = λ other. let w = p.whole other in (w.0, w.1.taken);
-  part = λ three. part_told s bytes (p.part three);
+sent_told s status wanted bytes sent = record {
+  whole = λ other. let whole_taken = sent.whole other in (whole_taken.0, whole_taken.1.taken);
+  part = λ three. part_told s bytes (sent.part three);
 }
 
 -- what was reported of a stream that isn't followed to its close was so by the earlier contract, too

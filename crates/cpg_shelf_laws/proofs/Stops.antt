@@ -35,40 +35,43 @@ use Rattle.cpg_shelf_laws.proofs.Fetched.{IsLast, TellsAs, more, tells_long, tel
 -- bytes within the limit that say an admitted graph say it as the shelf reports them
 pub admits : (told : Option Text) (given : Text) (a : Admission) → TellsAs told given →
     length given ≤ limit_of GraphFile → AreAdmitted given a → Admits told a
-admits told given a alike short x = record {
-  says =
-      (told_short told given _ alike short, told_says told given (λ bytes. problem_of bytes ≡ Ok a.graph) alike x.says);
-  admitted = x.admitted;
+admits told given a alike short are_admitted = record {
+  says = (
+    told_short told given _ alike short,
+    told_says told given (λ bytes. problem_of bytes ≡ Ok a.graph) alike
+        are_admitted.says,
+  );
+  admitted = are_admitted.admitted;
 }
 
 -- bytes within the limit that say a graph say it as the shelf reports them
 pub says : (told : Option Text) (given : Text) (g : Graph) → TellsAs told given → length given ≤ limit_of GraphFile →
     problem_of given ≡ Ok g → Says told g
-says told given g alike short x =
-    (told_short told given _ alike short, told_says told given (λ bytes. problem_of bytes ≡ Ok g) alike x)
+says told given g alike short is_ok =
+    (told_short told given _ alike short, told_says told given (λ bytes. problem_of bytes ≡ Ok g) alike is_ok)
 
 -- bytes within the limit that spell tables spell them as the shelf reports them
 pub spells : (told : Option Text) (given : Text) (t : Tables) → TellsAs told given → length given ≤ limit_of PackFile →
     AreSpelled given t → Spells told t
-spells told given t alike short x = record {
-  lawful = x.lawful;
+spells told given t alike short are_spelled = record {
+  lawful = are_spelled.lawful;
   short = told_short told given _ alike short;
-  spelled = told_says told given (λ bytes. bytes ≡ spelling t) alike x.spelled;
+  spelled = told_says told given (λ bytes. bytes ≡ spelling t) alike are_spelled.spelled;
 }
 
 -- bytes within the limit that say what is played, `p`, say it as the shelf reports them
 pub says_scenario : (told : Option Text) (given : Text) (g : Graph) (p : Played) → TellsAs told given →
     length given ≤ limit_of ScenarioFile → ArePlayed given g p →
     SaysPlayed told g p
-says_scenario told given g p alike short x =
-    (told_short told given _ alike short, told_says told given (λ bytes. file_of g bytes ≡ Ok p) alike x.says)
+says_scenario told given g p alike short are_played =
+    (told_short told given _ alike short, told_says told given (λ bytes. file_of g bytes ≡ Ok p) alike are_played.says)
 
 -- bytes within the limit that are a log `l` of a graph are so as the shelf reports them
 pub says_acts : (told : Option Text) (given : Text) (g : Graph) (l : Log) → TellsAs told given →
     length given ≤ limit_of LogFile → AreLogged given g l →
     SaysLog told g l
-says_acts told given g l alike short x =
-    (told_short told given _ alike short, told_says told given (λ bytes. IsLogOf g bytes l) alike x.says)
+says_acts told given g l alike short are_logged =
+    (told_short told given _ alike short, told_says told given (λ bytes. IsLogOf g bytes l) alike are_logged.says)
 
 -- ---- why the last file stops a run
 
@@ -76,45 +79,46 @@ says_acts told given g l alike short x =
 module _ (old new : ShelfState) (f : Fetch) (is : IsLast old new f) (name : Text) where
   -- if it gave no more than a limit, the count of its bytes isn't more
   within : (limit : ℕ) → length f.given ≤ limit → given_count new ≤ limit
-  within limit short = let c = is.count in omega (arith, c, short)
+  within limit short = let count = is.count in omega (arith, count, short)
 
   -- if the file wasn't read, as the shelf failed, the count of faults rose
   unread : (kind : FileKind) (halt : Halt) → IsUnreadFile (file kind name) f halt → IsUnread (seen old new) halt
-  unread kind halt u = record { halt_is = u.halt_is; rose = is.rose u.failed }
+  unread kind halt unread_file = record { halt_is = unread_file.halt_is; rose = is.rose unread_file.failed }
 
   -- a file that is too long is so as the shelf reports it
   long : (kind : FileKind) (halt : Halt) → IsLongFile (file kind name) f halt →
       IsLong (limit_of kind) (long_of kind) (seen old new) (old.stands name) halt
-  long kind halt l = record {
-    halt_is = l.halt_is;
-    given = (let c = is.count in let o = l.over in omega (arith, c, o));
-    most = (let c = is.count in let o = l.over in omega (arith, c, o));
-    long = tells_long old.stands (file kind name) f l.of (more (length f.given) (limit_of kind) l.over) is.agrees;
+  long kind halt is_long_file = record {
+    halt_is = is_long_file.halt_is;
+    given = (let count = is.count in let over = is_long_file.over in omega (arith, count, over));
+    most = (let count = is.count in let over = is_long_file.over in omega (arith, count, over));
+    long = tells_long old.stands (file kind name) f is_long_file.of
+        (more (length f.given) (limit_of kind) is_long_file.over) is.agrees;
   }
 
   -- a whole file is what the shelf reports
   tells : (kind : FileKind) → IsWhole (file kind name) f → TellsAs (old.stands name) f.given
-  tells kind w = tells_whole old.stands (file kind name) f w is.agrees
+  tells kind is_whole = tells_whole old.stands (file kind name) f is_whole is.agrees
 
   -- a graph file that is faulty as it was given is faulty as the shelf reports it
   faulty : (halt : Halt) (short : length f.given ≤ limit_of GraphFile) → TellsAs (old.stands name) f.given →
       AreFaulty f.given halt →
       IsFaulty (seen old new) (old.stands name) halt
-  faulty halt short alike x = record {
-    fault = x.fault;
-    halt_is = x.halt_is;
+  faulty halt short alike are_faulty = record {
+    fault = are_faulty.fault;
+    halt_is = are_faulty.halt_is;
     within = λ other. within (limit_of GraphFile) short;
     first = λ other. (
       told_short (old.stands name) f.given _ alike short,
-      told_says (old.stands name) f.given (λ bytes. problem_of bytes ≡ Err x.fault) alike x.first,
+      told_says (old.stands name) f.given (λ bytes. problem_of bytes ≡ Err are_faulty.fault) alike are_faulty.first,
     );
   }
 
   -- the halt that memory ran out is one of reading a graph file
   no_graph : (halt : Halt) → halt ≡ Memory → IsFaulty (seen old new) (old.stands name) halt
-  no_graph halt e = record {
+  no_graph halt same = record {
     fault = ReadFault.OutOfMemory;
-    halt_is = e;
+    halt_is = same;
     within = λ other. absurd (other refl);
     first = λ other. absurd (other refl);
   }

@@ -27,25 +27,26 @@ use Rattle.cpg_shelf_laws.specs.Streams.{IsClosed, IsCutOff, IsLawfulSoFar, IsRe
 -- a state with a lawless record ends the stream with it
 end_lawless : (s : LiveState) (count : ℕ) (lawless : LawlessRecord) → s.lawless ≡ Some lawless →
     end_of s count ≡ Err (Lawless lawless)
-end_lawless s count lawless e =
-    ap (λ o. cond (is_none o && nat_lt STREAM_LIMIT count) (Err Long) (end_by (outcome_if s o))) e
+end_lawless s count lawless found =
+    ap (λ o. cond (is_none o && nat_lt STREAM_LIMIT count) (Err Long) (end_by (outcome_if s o))) found
 
 -- after a lawless record, more bytes change nothing
 after_lawless : (table : NodeTable) (fed more : List ℕ) (lawless : LawlessRecord) →
     (after table fed).lawless ≡ Some lawless →
     after table (fed ++ more) ≡ after table fed
-after_lawless table fed more lawless e = after_more table fed more ∙ lawless_stays (after table fed) lawless more e
+after_lawless table fed more lawless found =
+    after_more table fed more ∙ lawless_stays (after table fed) lawless more found
 
 -- no lawless record isn't some
 none_some : (lawless : LawlessRecord) → None ≡ Some lawless → ⊥
-none_some lawless e = true≢false (ap is_none e)
+none_some lawless same = true≢false (ap is_none same)
 
 -- the bytes up to a limit are those that were fed and, of the rest, as many as the limit leaves
 part_of : (limit : ℕ) (fed rest : List ℕ) → length fed ≤ limit →
     take limit (fed ++ rest) ≡ fed ++ take (limit - length fed) rest
-part_of limit fed rest l =
-    let e : limit ≡ length fed + (limit - length fed) = omega (arith, l) in
-    ap (λ n. take n (fed ++ rest)) e ∙ take-append-add fed rest (limit - length fed)
+part_of limit fed rest within =
+    let limit_is : limit ≡ length fed + (limit - length fed) = omega (arith, within) in
+    ap (λ n. take n (fed ++ rest)) limit_is ∙ take-append-add fed rest (limit - length fed)
 
 -- a stream of these bytes is refused with this fault, after these lines
 record IsRefusedBy (h : Head) (table : NodeTable) (bytes : List ℕ) (fault : StreamFault) (lines : List ℕ) : Type 0 where
@@ -74,23 +75,23 @@ module _ (h : Head) (table : NodeTable) (f : Fetch) (whole : List ℕ) (w : IsFr
   -- if more than the limit was given, the part that is read is that of what was given
   same_of_full : STREAM_LIMIT < length f.given → read_part whole ≡ read_part f.given
   same_of_full over =
-      let e : STREAM_LIMIT + 1 - length f.given ≡ 0 = omega (arith, over, few) in
-      read_whole ∙ (ap (λ n. f.given ++ take n w.rest) e ∙ (append-nil f.given ∙ sym read_given))
+      let none_more : STREAM_LIMIT + 1 - length f.given ≡ 0 = omega (arith, over, few) in
+      read_whole ∙ (ap (λ n. f.given ++ take n w.rest) none_more ∙ (append-nil f.given ∙ sym read_given))
 
   -- if what is read of the stream is what is read of the bytes that were given, a refusal of these is one of the stream
   refused_same : (fault : StreamFault) (lines : List ℕ) → IsRefusedFetch h table f fault lines →
       read_part whole ≡ read_part f.given →
       IsRefusedBy h table whole fault lines
-  refused_same fault lines c same = record {
-    ends = ap (λ bytes. end_of (after table bytes) (length bytes)) same ∙ c.ends;
-    long = λ e. let long = c.long e in record {
-      more = (let m = long.more in let l = ap (λ (bytes : List ℕ). length bytes) w.front in
-          let k = length-append f.given w.rest in omega (arith, m, l, k));
+  refused_same fault lines is_refused_fetch same = record {
+    ends = ap (λ bytes. end_of (after table bytes) (length bytes)) same ∙ is_refused_fetch.ends;
+    long = λ e. let long = is_refused_fetch.long e in record {
+      more = (let more_given = long.more in let lengths = ap (λ (bytes : List ℕ). length bytes) w.front in
+          let parts = length-append f.given w.rest in omega (arith, more_given, lengths, parts));
       lawful = ap (λ bytes. (after table bytes).lawless) same ∙ long.lawful;
       taken = ap (λ bytes. (after table bytes).taken) same ∙ long.taken;
       not_closed = ap (λ bytes. (after table bytes).closed) same ∙ long.not_closed;
     };
-    spelled = c.spelled ∙ sym (ap (λ bytes.
+    spelled = is_refused_fetch.spelled ∙ sym (ap (λ bytes.
         act_lines h (after table bytes).progress.acts ++ close_of (end_of (after table bytes) (length bytes))) same);
   }
 
@@ -99,19 +100,20 @@ module _ (h : Head) (table : NodeTable) (f : Fetch) (whole : List ℕ) (w : IsFr
       IsRefusedFetch h table f fault lines →
       (after table f.given).lawless ≡ Some lawless →
       IsRefusedBy h table whole fault lines
-  refused_lawless fault lines lawless c e =
+  refused_lawless fault lines lawless is_refused_fetch found =
       let state : after table (read_part whole) ≡ after table (read_part f.given) =
-      ap (after table) read_whole ∙ (after_lawless table f.given _ lawless e ∙ sym (ap (after table) read_given)) in
+      ap (after table) read_whole ∙ (after_lawless table f.given _ lawless found ∙ sym (ap (after table) read_given)) in
       let lawless_given : (after table (read_part f.given)).lawless ≡ Some lawless =
-      ap (λ bytes. (after table bytes).lawless) read_given ∙ e in
+      ap (λ bytes. (after table bytes).lawless) read_given ∙ found in
       let ends : stream_end table whole ≡ stream_end table f.given =
       ap (λ (s : LiveState). end_of s (length (read_part whole))) state ∙
       (end_lawless (after table (read_part f.given)) (length (read_part whole)) lawless lawless_given
       ∙ sym (end_lawless (after table (read_part f.given)) (length (read_part f.given)) lawless lawless_given)) in
       record {
-        ends = ends ∙ c.ends;
-        long = λ is. absurd (none_some lawless (sym (c.long is).lawful ∙ lawless_given));
-        spelled = c.spelled ∙ sym (ap₂ (λ (s : LiveState) r. act_lines h s.progress.acts ++ close_of r) state ends);
+        ends = ends ∙ is_refused_fetch.ends;
+        long = λ is. absurd (none_some lawless (sym (is_refused_fetch.long is).lawful ∙ lawless_given));
+        spelled = is_refused_fetch.spelled ∙ sym (ap₂ (λ (s : LiveState) r. act_lines h s.progress.acts ++ close_of r)
+            state ends);
       }
 
   -- If they have none, their refusal is one of the stream: either they are more than the limit, or the stream has
@@ -119,17 +121,20 @@ module _ (h : Head) (table : NodeTable) (f : Fetch) (whole : List ℕ) (w : IsFr
   refused_lawful : (fault : StreamFault) (lines : List ℕ) → IsRefusedFetch h table f fault lines →
       (after table f.given).lawless ≡ None →
       IsRefusedBy h table whole fault lines
-  refused_lawful Long lines c none = refused_same Long lines c (same_of_full (c.long refl).more)
-  refused_lawful (Lawless lawless) lines c none =
-      refused_same (Lawless lawless) lines c (same_of_none (w.all (c.all (not_long lawless) none)))
+  refused_lawful Long lines is_refused_fetch none =
+      refused_same Long lines is_refused_fetch (same_of_full (is_refused_fetch.long refl).more)
+  refused_lawful (Lawless lawless) lines is_refused_fetch none =
+      refused_same (Lawless lawless) lines is_refused_fetch (same_of_none
+      (w.all (is_refused_fetch.all (not_long lawless) none)))
 
   -- a refusal of what was given is one of the whole stream, whether there is a lawless record or not
   by_lawless : (fault : StreamFault) (lines : List ℕ) → IsRefusedFetch h table f fault lines →
       (o : Option LawlessRecord) →
       (after table f.given).lawless ≡ o →
       IsRefusedBy h table whole fault lines
-  by_lawless fault lines c None e = refused_lawful fault lines c e
-  by_lawless fault lines c (Some lawless) e = refused_lawless fault lines lawless c e
+  by_lawless fault lines is_refused_fetch None same = refused_lawful fault lines is_refused_fetch same
+  by_lawless fault lines is_refused_fetch (Some lawless) same =
+      refused_lawless fault lines lawless is_refused_fetch same
 
   -- If what was taken grew from `a` to `b` by a proper prefix of the lines of what was given, that is one of all lines,
   -- which go on with those of the rest.
@@ -137,19 +142,20 @@ module _ (h : Head) (table : NodeTable) (f : Fetch) (whole : List ℕ) (w : IsFr
       TookPrefix a b (stream_lines h table whole)
   cut_lines a b took =
       let acts : List Act = (after table f.given).progress.acts in
-      let g = acts_more table f.given (take (STREAM_LIMIT + 1 - length f.given) w.rest) in
-      let grown : (after table (read_part whole)).progress.acts ≡ acts ++ g.0 =
-      ap (λ bytes. (after table bytes).progress.acts) read_whole ∙ g.1 in
+      let more_acts = acts_more table f.given (take (STREAM_LIMIT + 1 - length f.given) w.rest) in
+      let grown : (after table (read_part whole)).progress.acts ≡ acts ++ more_acts.0 =
+      ap (λ bytes. (after table bytes).progress.acts) read_whole ∙ more_acts.1 in
       let close = close_of (stream_end table whole) in
-      let all : stream_lines h table whole ≡ act_lines h acts ++ (act_lines h g.0 ++ close) =
+      let all : stream_lines h table whole ≡ act_lines h acts ++ (act_lines h more_acts.0 ++ close) =
       ap (λ (done : List Act). act_lines h done ++ close) grown
-      ∙ (ap (λ l. l ++ close) (flat_map-append (act_line h) acts g.0)
-      ∙ append_assoc (act_lines h acts) (act_lines h g.0) close) in
-      subst (TookPrefix a b) (sym all) (took_more a b (act_lines h acts) (act_lines h g.0 ++ close) took)
+      ∙ (ap (λ l. l ++ close) (flat_map-append (act_line h) acts more_acts.0)
+      ∙ append_assoc (act_lines h acts) (act_lines h more_acts.0) close) in
+      subst (TookPrefix a b) (sym all) (took_more a b (act_lines h acts) (act_lines h more_acts.0 ++ close) took)
 
 -- a fetch that came to the end gave the whole
 ended_whole : (f : Fetch) (whole : List ℕ) → f.ended ≡ true → IsFrontOf whole f → f.given ≡ whole
-ended_whole f whole ended w = sym (w.front ∙ (ap (λ rest. f.given ++ rest) (w.all ended) ∙ append-nil f.given))
+ended_whole f whole ended is_front_of =
+    sym (is_front_of.front ∙ (ap (λ rest. f.given ++ rest) (is_front_of.all ended) ∙ append-nil f.given))
 
 -- ---- what the shelf tells
 
@@ -159,40 +165,63 @@ module _ (h : Head) (table : NodeTable) (f : Fetch) where
   pub refused_ends : (whole : List ℕ) (fault : StreamFault) (lines : List ℕ) → IsFrontOf whole f →
       IsRefusedFetch h table f fault lines →
       stream_end table whole ≡ Err fault
-  refused_ends whole fault lines w c =
-      (by_lawless h table f whole w c.few fault lines c (after table f.given).lawless refl).ends
+  refused_ends whole fault lines is_front_of is_refused_fetch =
+      (by_lawless h table f whole is_front_of is_refused_fetch.few fault lines is_refused_fetch
+      (after table f.given).lawless refl).ends
 
   -- if what was given of a stream closes it, so does the whole stream, at the same time
   pub closed_ends : (whole : List ℕ) (lines : List ℕ) → IsFrontOf whole f → (c : IsClosedFetch h table f lines) →
       stream_end table whole ≡ Ok c.time
-  closed_ends whole lines w c = ap (stream_end table) (sym (ended_whole f whole c.ended w)) ∙ c.ends
+  closed_ends whole lines is_front_of c = ap (stream_end table) (sym (ended_whole f whole c.ended is_front_of)) ∙ c.ends
 
   -- a stream that is refused by what was given is refused by what the shelf reports; by whether it reports the bytes
   pub refused_told : (told : Option (List ℕ)) (fault : StreamFault) (lines : List ℕ) →
       IfSome told (λ whole. IsFrontOf whole f) →
       IsRefusedFetch h table f fault lines →
       IsRefused h table told fault lines
-  refused_told None fault lines w c =
-      record { bytes = f.given; of = tt; ends = c.ends; long = c.long; spelled = c.spelled }
-  refused_told (Some whole) fault lines w c =
-      let by = by_lawless h table f whole w c.few fault lines c (after table f.given).lawless refl in
+  refused_told None fault lines w is_refused_fetch =
+      record {
+        bytes = f.given;
+        of = tt;
+        ends = is_refused_fetch.ends;
+        long = is_refused_fetch.long;
+        spelled =
+            is_refused_fetch.spelled;
+      }
+  refused_told (Some whole) fault lines w is_refused_fetch =
+      let by = by_lawless h table f whole w is_refused_fetch.few fault lines is_refused_fetch
+      (after table f.given).lawless refl in
       record { bytes = whole; of = refl; ends = by.ends; long = by.long; spelled = by.spelled }
 
   -- a stream that is closed by what was given is closed by what the shelf reports
   pub closed_told : (told : Option (List ℕ)) (lines : List ℕ) → IfSome told (λ whole. IsFrontOf whole f) →
       IsClosedFetch h table f lines →
       IsClosed h table told lines
-  closed_told None lines w c = record { bytes = f.given; of = tt; time = c.time; ends = c.ends; spelled = c.spelled }
-  closed_told (Some whole) lines w c =
-      record { bytes = f.given; of = ended_whole f whole c.ended w; time = c.time; ends = c.ends; spelled = c.spelled }
+  closed_told None lines w is_closed_fetch = record {
+    bytes = f.given;
+    of = tt;
+    time = is_closed_fetch.time;
+    ends =
+        is_closed_fetch.ends;
+    spelled = is_closed_fetch.spelled;
+  }
+  closed_told (Some whole) lines w is_closed_fetch =
+      record {
+        bytes = f.given;
+        of = ended_whole f whole is_closed_fetch.ended w;
+        time = is_closed_fetch.time;
+        ends =
+            is_closed_fetch.ends;
+        spelled = is_closed_fetch.spelled;
+      }
 
   -- what was given is the first part of what the shelf reports
   given_first : (told : Option (List ℕ)) (count : ℕ) → count ≡ length f.given →
       IfSome told (λ whole. IsFrontOf whole f) →
       IfSome told (λ whole. f.given ≡ take count whole)
-  given_first None count e w = tt
-  given_first (Some whole) count e w =
-      sym (ap₂ take e w.front ∙ (part_of (length f.given) f.given w.rest (omega arith)
+  given_first None count same w = tt
+  given_first (Some whole) count same w =
+      sym (ap₂ take same w.front ∙ (part_of (length f.given) f.given w.rest (omega arith)
       ∙ (ap (λ n. f.given ++ take n w.rest) (none_more (length f.given)) ∙ append-nil f.given)))
     where
       -- a number less itself is 0
@@ -204,16 +233,22 @@ module _ (h : Head) (table : NodeTable) (f : Fetch) where
       IfSome told (λ whole. IsFrontOf whole f) →
       IsLawfulFetch h table f lines →
       IsLawfulSoFar h table told count lines
-  lawful_told told count lines e w c =
-      record { bytes = f.given; count = e; first = given_first told count e w; lawful = c.lawful; spelled = c.spelled }
+  lawful_told told count lines same w is_lawful_fetch =
+      record {
+        bytes = f.given;
+        count = same;
+        first = given_first told count same w;
+        lawful = is_lawful_fetch.lawful;
+        spelled = is_lawful_fetch.spelled;
+      }
 
   -- Lines that were cut off between `a` and `b` by what was given are so by what the shelf reports. The stream was
   -- given whole, or the lines so far were cut, which are a front of all.
   pub cut_told : (told : Option (List ℕ)) (a b : List ℕ) → IfSome told (λ whole. IsFrontOf whole f) →
       IsCutFetch h table f a b →
       IsCutOff h table told (Some a) (Some b)
-  cut_told None a b w c = record { bytes = f.given; of = tt; front = c.front }
-  cut_told (Some whole) a b w c = elim c.so_far [
-    | inl ended ↦ record { bytes = f.given; of = ended_whole f whole ended w; front = c.front }
-    | inr took ↦ record { bytes = whole; of = refl; front = cut_lines h table f whole w c.few a b took }
+  cut_told None a b w is_cut_fetch = record { bytes = f.given; of = tt; front = is_cut_fetch.front }
+  cut_told (Some whole) a b w is_cut_fetch = elim is_cut_fetch.so_far [
+    | inl ended ↦ record { bytes = f.given; of = ended_whole f whole ended w; front = is_cut_fetch.front }
+    | inr took ↦ record { bytes = whole; of = refl; front = cut_lines h table f whole w is_cut_fetch.few a b took }
   ]

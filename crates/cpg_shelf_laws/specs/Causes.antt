@@ -237,7 +237,7 @@ pub record IsUnsaid (seen : Seen) (pairs : List Pair) (halt : Halt) : Type 0 whe
   -- the parts before it, as their files say them
   pub earlier : List Part
   pub said : AreSaid seen.stands (take place pairs) earlier
-  -- the default `d` isn't read, since the place is below the number of parts
+  -- the reading of this part's file stops; the default `d` isn't used, since `place` is below the number of pairs
   pub stops : (d : Pair) → StopsReading seen (seen.stands (get_or pairs place d).graph) halt
 
 -- the reading of the parts' files stops with this halt: by one of them, or as memory ran out

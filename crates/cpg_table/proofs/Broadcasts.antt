@@ -12,8 +12,8 @@ has_condition p = p.condition
 -- the number `i` of the next condition is at most that of the first one, `n`, and how many processes were passed, `k`; with
 -- one process more, which has a condition if `c`, this still holds
 pub few_on : (c : Bool) (i n k : ℕ) → i ≤ n + k → cond c (i + 1) i ≤ n + (k + 1)
-few_on true i n k h = omega arith
-few_on false i n k h = omega arith
+few_on true i n k few = omega arith
+few_on false i n k few = omega arith
 
 -- a process with a condition (c) that is wanted (b) puts its number i at the end of those listed, instead of at the front
 -- of the rest; the rest counts on if it has a condition
@@ -41,7 +41,7 @@ module _ (test : HeadProcess → Bool) where
   -- the processes from a place on are the one there and those after it
   drop_is : (ps : List HeadProcess) (k : ℕ) (x : HeadProcess) → k < length ps →
       drop k ps ≡ get_or ps k x ∷ drop (k + 1) ps
-  drop_is ps k x h = rw (add-one, drop-cons ps k x) refl
+  drop_is ps k x inside = rw (add-one, drop-cons ps k x) refl
 
   -- x is the process at place k, which is wanted if `w`; `i` and `j` are the numbers of the next condition before it and
   -- after it. If the list `front` and the numbers from place k on make `total`, so do the list `after` and the numbers from
@@ -52,11 +52,11 @@ module _ (test : HeadProcess → Bool) where
       after ≡ front ++ cond w (i ∷ []) [] → j ≡ cond x.condition (i + 1) i
       → front ++ numbers i (drop k ps) ≡ total → after ++ numbers j (drop (k + 1) ps) ≡ total
   broadcasts_on ps k i j x w front after total is lt ew ea ej so_far =
-      let d : drop k ps ≡ x ∷ drop (k + 1) ps =
+      let left : drop k ps ≡ x ∷ drop (k + 1) ps =
       drop_is ps k x lt ∙ ap (λ (y : HeadProcess). y ∷ drop (k + 1) ps) (sym is) in
       ap₂ (λ (t : List ℕ) (m : ℕ). t ++ numbers m (drop (k + 1) ps))
       (ea ∙ ap (λ (v : Bool). front ++ cond v (i ∷ []) []) ew) ej
       ∙ either x.condition (test x) i front (λ m. numbers m (drop (k + 1) ps))
       ∙ sym (ap (λ (t : List ℕ). front ++ t) (numbers_first i x (drop (k + 1) ps) x.condition))
-      ∙ sym (ap (λ (qs : List HeadProcess). front ++ numbers i qs) d)
+      ∙ sym (ap (λ (qs : List HeadProcess). front ++ numbers i qs) left)
       ∙ so_far

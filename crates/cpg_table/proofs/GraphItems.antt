@@ -30,10 +30,10 @@ use Rattle.cpg_head.proofs.HeadWithin.{has_condition}
 -- f (x - s), if i is s + a; by induction on the length
 where_from : {X : Type 0} (test : X → Bool) (f : ℕ → X) (s a n i : ℕ) → i ≡ s + a →
     numbers_where test i (map f (range_with_len a n)) ≡ filter (λ x. test (f (x - s))) (range_with_len i n)
-where_from test f s a zero i e = refl
-where_from test f s a (suc n) i e =
-    let rest = where_from test f s (a + 1) n (i + 1) (omega (arith, e)) in
-    let at : i - s ≡ a = omega (arith, e) in
+where_from test f s a zero i counted = refl
+where_from test f s a (suc n) i counted =
+    let rest = where_from test f s (a + 1) n (i + 1) (omega (arith, counted)) in
+    let at : i - s ≡ a = omega (arith, counted) in
     ap (λ xs. cond (test (f a)) (i ∷ xs) xs) rest
     ∙ ap (λ b. cond b (i ∷ filter (λ x. test (f (x - s))) (range_with_len (i + 1) n))
     (filter (λ x. test (f (x - s))) (range_with_len (i + 1) n))) (ap (λ k. test (f k)) (sym at))
@@ -45,11 +45,12 @@ where_is test f s n = where_from test f s 0 n s (omega arith)
 
 -- a range of m + n numbers is its first m and then the other n
 pub range-append : (a m n : ℕ) → range_with_len a (m + n) ≡ range_with_len a m ++ range_with_len (a + m) n
-range-append a zero n = ap₂ range_with_len (let e : a ≡ a + 0 = omega arith in e) (let e : 0 + n ≡ n = omega arith in e)
+range-append a zero n =
+    ap₂ range_with_len (let same : a ≡ a + 0 = omega arith in same) (let same : 0 + n ≡ n = omega arith in same)
 range-append a (suc m) n =
-    ap (range_with_len a) (let e : suc m + n ≡ suc (m + n) = omega arith in e)
+    ap (range_with_len a) (let same : suc m + n ≡ suc (m + n) = omega arith in same)
     ∙ ap (λ xs. a ∷ xs) (range-append (a + 1) m n
-    ∙ ap (λ b. range_with_len (a + 1) m ++ range_with_len b n) (let e : a + 1 + m ≡ a + suc m = omega arith in e))
+    ∙ ap (λ b. range_with_len (a + 1) m ++ range_with_len b n) (let same : a + 1 + m ≡ a + suc m = omega arith in same))
 
 -- to test what is mapped is to map what passes
 filter-map : {X Y : Type 0} (p : Y → Bool) (f : X → Y) (xs : List X) →
@@ -61,8 +62,8 @@ filter-map p f (x ∷ xs) = step (p (f x)) (filter-map p f xs)
     step : (b : Bool) → filter p (map f xs) ≡ map f (filter (λ x. p (f x)) xs) →
         cond b (f x ∷ filter p (map f xs)) (filter p (map f xs)) ≡ map f
         (cond b (x ∷ filter (λ x. p (f x)) xs) (filter (λ x. p (f x)) xs))
-    step true e = ap (λ ys. f x ∷ ys) e
-    step false e = e
+    step true same = ap (λ ys. f x ∷ ys) same
+    step false same = same
 
 -- mapping twice is mapping once by both
 map-map : {X Y Z : Type 0} (g : Y → Z) (f : X → Y) (xs : List X) → map g (map f xs) ≡ map (λ x. g (f x)) xs
@@ -85,7 +86,7 @@ enters_is a b n = grind (arith, nat_tests)
 
 -- if a and b are different nodes, there are two nodes or more
 one_node : (a b n : ℕ) → a < n → b < n → not (a == b) ≡ (ltb 1 n && not (a == b))
-one_node a b n h k = grind (arith, nat_tests)
+one_node a b n a_is_node b_is_node = grind (arith, nat_tests)
 
 -- to filter only if b holds is to filter with b as a part of the test
 cond-filter : (b : Bool) (p : ℕ → Bool) (xs : List ℕ) → cond b (filter p xs) [] ≡ filter (λ x. b && p x) xs
@@ -101,11 +102,12 @@ module _ (g : Graph) (w : IsWithinLimits g) where
 
   -- the node of a process under the head is that of the graph
   node_there : (p : ℕ) → p < process_count g → head_node_of (head_of g) p ≡ node_of g p
-  node_there p l = ap (λ (q : HeadProcess). q.node) (get_or-map-below (head_process g) (process_count g) p _ l)
+  node_there p is_process =
+      ap (λ (q : HeadProcess). q.node) (get_or-map-below (head_process g) (process_count g) p _ is_process)
 
   -- each edge is between processes of the graph
   edge_within : (e : ℕ) → e < edge_count g → IsEdgeWithin (process_count g) (edge_at g e)
-  edge_within e l = All-get_or (IsEdgeWithin (process_count g)) g.edges e _ l w.edges
+  edge_within e is_edge = All-get_or (IsEdgeWithin (process_count g)) g.edges e _ is_edge w.edges
 
   -- the edges of the head are those of the graph, by number
   edges_are : (head_of g).edges ≡ map (λ e. (source g e, target g e)) (numbers_below (edge_count g))
@@ -152,8 +154,8 @@ module _ (g : Graph) (w : IsWithinLimits g) where
         ap₂ (λ xs a. xs ++ range_with_len a (condition_count g))
         (range-append 0 (process_count g) (edge_count g)
         ∙ ap (λ a. numbers_below (process_count g) ++ range_with_len a (edge_count g))
-        (let e : 0 + process_count g ≡ process_count g = omega arith in e))
-        (let e : 0 + (process_count g + edge_count g) ≡ process_count g + edge_count g = omega arith in e))
+        (let same : 0 + process_count g ≡ process_count g = omega arith in same))
+        (let same : 0 + (process_count g + edge_count g) ≡ process_count g + edge_count g = omega arith in same))
         ∙ filter-append p (numbers_below (process_count g) ++ range_with_len (process_count g) (edge_count g))
         (range_with_len (process_count g + edge_count g) (condition_count g))
         ∙ ap (λ xs. xs ++ filter p (range_with_len (process_count g + edge_count g) (condition_count g)))
@@ -171,21 +173,22 @@ module _ (g : Graph) (w : IsWithinLimits g) where
     -- an item after the starts and before the broadcasts is a message, of an edge of the graph
     at_message : (x : ℕ) → Contains (range_with_len (process_count g) (edge_count g)) x →
         (x - process_count g < edge_count g) × (item_at g x ≡ Message (x - process_count g))
-    at_message x c =
-        let r = from_range (process_count g) (edge_count g) x c in
-        let l : x - process_count g < edge_count g = omega (arith, r.0, r.1) in
-        let is : x ≡ message_item g (x - process_count g) = omega (arith, r.0) in
-        (l, ap (item_at g) is ∙ item_at-message g (x - process_count g) l)
+    at_message x in_range =
+        let bounds = from_range (process_count g) (edge_count g) x in_range in
+        let is_edge : x - process_count g < edge_count g = omega (arith, bounds.0, bounds.1) in
+        let is : x ≡ message_item g (x - process_count g) = omega (arith, bounds.0) in
+        (is_edge, ap (item_at g) is ∙ item_at-message g (x - process_count g) is_edge)
 
     -- an item after the messages is a broadcast, of a condition of the graph
     at_broadcast : (x : ℕ) → Contains (range_with_len (process_count g + edge_count g) (condition_count g)) x →
         (x - (process_count g + edge_count g) < condition_count g) ×
         (item_at g x ≡ Broadcast (x - (process_count g + edge_count g)))
-    at_broadcast x c =
-        let r = from_range (process_count g + edge_count g) (condition_count g) x c in
-        let l : x - (process_count g + edge_count g) < condition_count g = omega (arith, r.0, r.1) in
-        let is : x ≡ broadcast_item g (x - (process_count g + edge_count g)) = omega (arith, r.0) in
-        (l, ap (item_at g) is ∙ item_at-broadcast g (x - (process_count g + edge_count g)))
+    at_broadcast x in_range =
+        let bounds = from_range (process_count g + edge_count g) (condition_count g) x in_range in
+        let is_condition : x - (process_count g + edge_count g) < condition_count g =
+        omega (arith, bounds.0, bounds.1) in
+        let is : x ≡ broadcast_item g (x - (process_count g + edge_count g)) = omega (arith, bounds.0) in
+        (is_condition, ap (item_at g) is ∙ item_at-broadcast g (x - (process_count g + edge_count g)))
 
     -- the messages that a node sends under the head are those that it sends in the graph: the two tests agree (`leaves_is`)
     pub sent_messages : numbers_where (leaves (head_of g) node) (first_message (head_of g)) (head_of g).edges
@@ -195,9 +198,9 @@ module _ (g : Graph) (w : IsWithinLimits g) where
         ∙ same_filter (λ x. leaves (head_of g) node (source g (x - process_count g), target g (x - process_count g)))
         (λ x. is_sent g x && (home g x == node))
         (range_with_len (process_count g) (edge_count g))
-        (λ x c. let at = at_message x c in let e = edge_within (x - process_count g) at.0 in
-        ap₂ (λ a b. (a == node) && not (b == node)) (node_there (source g (x - process_count g)) e.from)
-        (node_there (target g (x - process_count g)) e.to)
+        (λ x c. let at = at_message x c in let ends = edge_within (x - process_count g) at.0 in
+        ap₂ (λ a b. (a == node) && not (b == node)) (node_there (source g (x - process_count g)) ends.from)
+        (node_there (target g (x - process_count g)) ends.to)
         ∙ sym (leaves_is (node_of g (source g (x - process_count g))) (node_of g (target g (x - process_count g))) node)
         ∙ ap (λ i. is_sent_item g i && (node_of g (producer_of_item g i) == node)) (sym at.1))
 
@@ -236,17 +239,17 @@ module _ (g : Graph) (w : IsWithinLimits g) where
         ∙ same_filter (λ x. enters (head_of g) node (source g (x - process_count g), target g (x - process_count g)))
         (λ x. is_heard_by g node (item_at g x))
         (range_with_len (process_count g) (edge_count g))
-        (λ x c. let at = at_message x c in let e = edge_within (x - process_count g) at.0 in
-        ap₂ (λ a b. not (a == node) && (b == node)) (node_there (source g (x - process_count g)) e.from)
-        (node_there (target g (x - process_count g)) e.to)
+        (λ x c. let at = at_message x c in let ends = edge_within (x - process_count g) at.0 in
+        ap₂ (λ a b. not (a == node) && (b == node)) (node_there (source g (x - process_count g)) ends.from)
+        (node_there (target g (x - process_count g)) ends.to)
         ∙ sym (enters_is (node_of g (source g (x - process_count g))) (node_of g (target g (x - process_count g))) node)
         ∙ ap (is_heard_by g node) (sym at.1))
 
     -- if a process isn't on this node, there are two nodes or more
     others_need_two : (p : ℕ) → p < process_count g → node < length g.nodes →
         not (node_of g p == node) ≡ (ltb 1 (length g.nodes) && not (node_of g p == node))
-    others_need_two p l inside = one_node (node_of g p) node (length g.nodes)
-        (All-get_or (IsProcessWithin (length g.nodes)) g.processes p _ l w.processes).node inside
+    others_need_two p is_process inside = one_node (node_of g p) node (length g.nodes)
+        (All-get_or (IsProcessWithin (length g.nodes)) g.processes p _ is_process w.processes).node inside
 
     -- the items that a node hears under the head are those that it hears in the graph: no start, then messages as above
     -- and broadcasts

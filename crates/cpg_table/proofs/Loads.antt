@@ -51,15 +51,15 @@ is_heard_at g node x = is_heard_by g node (item_at g x)
 module _ (g : Graph) (node : ℕ) where
   -- no node sends a start
   start_sent : (p : ℕ) → p < process_count g → is_sent_from g node p ≡ false
-  start_sent p l = ap (λ b. b && (home g p == node)) (start_not_sent g p l)
+  start_sent p is_process = ap (λ b. b && (home g p == node)) (start_not_sent g p is_process)
 
   -- no node hears a start
   start_heard : (p : ℕ) → p < process_count g → is_heard_at g node p ≡ false
-  start_heard p l = ap (is_heard_by g node) (item_at-start g p l)
+  start_heard p is_process = ap (is_heard_by g node) (item_at-start g p is_process)
 
   -- what isn't a process isn't started
   late_start : (x : ℕ) → process_count g ≤ x → is_started_on g node x ≡ false
-  late_start x l = ap (λ b. b && (node_of g x == node)) (le-ltb x (process_count g) l)
+  late_start x past = ap (λ b. b && (node_of g x == node)) (le-ltb x (process_count g) past)
 
   -- a message isn't started
   message_started : (e : ℕ) → is_started_on g node (message_item g e) ≡ false
@@ -68,12 +68,13 @@ module _ (g : Graph) (node : ℕ) where
   -- a node sends a message exactly if its source is on the node and its target isn't
   message_sent : (e : ℕ) → e < edge_count g →
       is_sent_from g node (message_item g e) ≡ (is_message g e && (node_of g (source g e) == node))
-  message_sent e l = ap (λ i. is_sent_item g i && (node_of g (producer_of_item g i) == node)) (item_at-message g e l)
+  message_sent e is_edge =
+      ap (λ i. is_sent_item g i && (node_of g (producer_of_item g i) == node)) (item_at-message g e is_edge)
 
   -- a node hears a message exactly if its target is on the node and its source isn't
   message_heard : (e : ℕ) → e < edge_count g →
       is_heard_at g node (message_item g e) ≡ (is_message g e && (node_of g (target g e) == node))
-  message_heard e l = ap (is_heard_by g node) (item_at-message g e l)
+  message_heard e is_edge = ap (is_heard_by g node) (item_at-message g e is_edge)
 
   -- a broadcast isn't started
   broadcast_started : (c : ℕ) → is_started_on g node (broadcast_item g c) ≡ false
@@ -94,7 +95,7 @@ module _ (g : Graph) (node : ℕ) where
   starts_whole : filter (is_started_on g node) (numbers_below (item_count g)) ≡ processes_on g node
   starts_whole =
       ap (filter (is_started_on g node)) (ap numbers_below
-      (let e : item_count g ≡ process_count g + (edge_count g + condition_count g) = omega arith in e) ∙
+      (let same : item_count g ≡ process_count g + (edge_count g + condition_count g) = omega arith in same) ∙
       range-append 0 (process_count g) (edge_count g + condition_count g))
       ∙ filter-append (is_started_on g node) (numbers_below (process_count g))
       (range_with_len (0 + process_count g) (edge_count g + condition_count g))
@@ -125,11 +126,12 @@ count_rows row columns xs each = sum_by-map (λ (r : Row). length r.columns) row
 -- a sum over n places that has v at the place w and 0 elsewhere is at most v
 place_le : (w v n : ℕ) → sum_by (λ node. cond (w == node) v 0) (numbers_below n) ≤ v
 place_le w v n = elim (cases_lt w n) [
-  | inl l ↦ omega (arith, sum_of_place w v n l)
-  | inr l ↦ omega (
+  | inl inside ↦ omega (arith, sum_of_place w v n inside)
+  | inr past ↦ omega (
     arith,
     sum_by_zeros (at_place w v) (numbers_below n)
-        (λ node c. at_place-other w v node (let k = numbers-Contains n node c in λ e. omega (arith, k, l, e))),
+        (λ node c. at_place-other w v node (let is_place = numbers-Contains n node c in
+        λ same. omega (arith, is_place, past, same))),
   )
 ]
 
@@ -149,13 +151,13 @@ module _ (g : Graph) (within : IsWithinLimits g) (rows : List Row) where
   node_count : (node : ℕ) → node < length g.nodes →
       column_count (rows_of_items g rows (lists_of (head_of g) node))
       ≡ sum_by (at_node node) (numbers_below (item_count g))
-  node_count node l =
+  node_count node is_node =
       let all : List ℕ = numbers_below (item_count g) in
       let items : ItemLists = lists_of (head_of g) node in
       let started : starts_of (head_of g) node ≡ filter (is_started_on g node) all =
       starts_are g within node ∙ sym (starts_whole g node) in
       let sent : sends_of (head_of g) node ≡ filter (is_sent_from g node) all = sends_are g within node in
-      let heard : hears_of (head_of g) node ≡ filter (is_heard_at g node) all = hears_are g within node l in
+      let heard : hears_of (head_of g) node ≡ filter (is_heard_at g node) all = hears_are g within node is_node in
       sum_by-append (λ (r : Row). length r.columns) (map (row_for rows) items.starts)
       (map (row_for rows) items.sends ++ map (heard_row g rows) items.hears)
       ∙ ap₂ ◌+◌ (count_rows (row_for rows) columns items.starts (λ x. refl) ∙ ap (sum_by columns) started
@@ -185,44 +187,46 @@ module _ (g : Graph) (within : IsWithinLimits g) (rows : List Row) where
 
   -- a start has its columns at one node at most, that of its process
   start_le : (p : ℕ) → p < process_count g → sum_by (λ node. at_node node p) nodes ≤ columns p
-  start_le p l = omega (
+  start_le p is_process = omega (
     arith,
     place_le (node_of g p) (columns p) (length g.nodes),
     same_sum_by (λ node. at_node node p) (λ node. cond (node_of g p == node) (columns p) 0) nodes
         (λ node c. three (is_started_on g node p) (is_sent_from g node p) (is_heard_at g node p)
         (node_of g p == node) false false (columns p)
-        (ap (λ b. b && (node_of g p == node)) (lt-ltb p (process_count g) l)) (start_sent g node p l)
-        (start_heard g node p l) ∙ omega arith),
+        (ap (λ b. b && (node_of g p == node)) (lt-ltb p (process_count g) is_process)) (start_sent g node p is_process)
+        (start_heard g node p is_process) ∙ omega arith),
   )
 
   -- a message has its columns at most at two nodes, its sender and its receiver; an edge within a node has none
   message_by : (e : ℕ) → e < edge_count g → (b : Bool) → is_message g e ≡ b →
       sum_by (λ node. at_node node (message_item g e)) nodes ≤ columns (message_item g e) * cond b 2 0
-  message_by e l true m =
-      let x : ℕ = message_item g e in
+  message_by e is_edge true answer =
+      let item : ℕ = message_item g e in
       omega (
         arith,
-        place_le (node_of g (source g e)) (columns x) (length g.nodes),
-        place_le (node_of g (target g e)) (columns x) (length g.nodes),
-        sum_by-add (λ node. cond (node_of g (source g e) == node) (columns x) 0)
-            (λ node. cond (node_of g (target g e) == node) (columns x) 0) nodes,
-        same_sum_by (λ node. at_node node x) (λ node. cond (node_of g (source g e) == node) (columns x) 0
-            + cond (node_of g (target g e) == node) (columns x) 0) nodes
-            (λ node c. three (is_started_on g node x) (is_sent_from g node x) (is_heard_at g node x) false
-            (node_of g (source g e) == node) (node_of g (target g e) == node) (columns x)
-            (message_started g node e) (message_sent g node e l ∙ ap (λ b. b && (node_of g (source g e) == node)) m)
-            (message_heard g node e l ∙ ap (λ b. b && (node_of g (target g e) == node)) m) ∙
+        place_le (node_of g (source g e)) (columns item) (length g.nodes),
+        place_le (node_of g (target g e)) (columns item) (length g.nodes),
+        sum_by-add (λ node. cond (node_of g (source g e) == node) (columns item) 0)
+            (λ node. cond (node_of g (target g e) == node) (columns item) 0) nodes,
+        same_sum_by (λ node. at_node node item) (λ node. cond (node_of g (source g e) == node) (columns item) 0
+            + cond (node_of g (target g e) == node) (columns item) 0) nodes
+            (λ node c. three (is_started_on g node item) (is_sent_from g node item) (is_heard_at g node item) false
+            (node_of g (source g e) == node) (node_of g (target g e) == node) (columns item)
+            (message_started g node e)
+            (message_sent g node e is_edge ∙ ap (λ b. b && (node_of g (source g e) == node)) answer)
+            (message_heard g node e is_edge ∙ ap (λ b. b && (node_of g (target g e) == node)) answer) ∙
             omega arith),
       )
-  message_by e l false m =
-      let x : ℕ = message_item g e in
+  message_by e is_edge false answer =
+      let item : ℕ = message_item g e in
       omega (
         arith,
-        sum_by_zeros (λ node. at_node node x) nodes
-            (λ node c. three (is_started_on g node x) (is_sent_from g node x)
-            (is_heard_at g node x) false false false (columns x)
-            (message_started g node e) (message_sent g node e l ∙ ap (λ b. b && (node_of g (source g e) == node)) m)
-            (message_heard g node e l ∙ ap (λ b. b && (node_of g (target g e) == node)) m)),
+        sum_by_zeros (λ node. at_node node item) nodes
+            (λ node c. three (is_started_on g node item) (is_sent_from g node item)
+            (is_heard_at g node item) false false false (columns item)
+            (message_started g node e)
+            (message_sent g node e is_edge ∙ ap (λ b. b && (node_of g (source g e) == node)) answer)
+            (message_heard g node e is_edge ∙ ap (λ b. b && (node_of g (target g e) == node)) answer)),
       )
 
   -- a number counts once, by a test or by its opposite
@@ -234,45 +238,48 @@ module _ (g : Graph) (within : IsWithinLimits g) (rows : List Row) where
   broadcast_by : (k : ℕ) (b : Bool) → nat_lt 1 (length g.nodes) ≡ b →
       sum_by (λ node. at_node node (broadcast_item g k)) nodes
       ≤ columns (broadcast_item g k) * cond b (length g.nodes) 0
-  broadcast_by k true m =
-      let x : ℕ = broadcast_item g k in
-      let each : sum_by (λ node. at_node node x) nodes ≡ sum_by (λ node. columns x) nodes =
-      same_sum_by (λ node. at_node node x) (λ node. columns x) nodes
-      (λ node c. three (is_started_on g node x) (is_sent_from g node x) (is_heard_at g node x) false
-      (node_of g (process_of g k) == node) (not (node_of g (process_of g k) == node)) (columns x)
-      (broadcast_started g node k) (broadcast_sent g node k ∙ ap (λ b. b && (node_of g (process_of g k) == node)) m)
-      (broadcast_heard g node k ∙ ap (λ b. b && not (node_of g (process_of g k) == node)) m)
-      ∙ either (node_of g (process_of g k) == node) (columns x)) in
-      let all : sum_by (λ node. columns x) nodes ≡ length g.nodes * columns x =
-      sum_by_constant (columns x) nodes ∙ ap (λ n. n * columns x) (length-range_with_len 0 (length g.nodes)) in
-      let product : length g.nodes * columns x ≡ columns x * length g.nodes = mul_comm (length g.nodes) (columns x) in
+  broadcast_by k true answer =
+      let item : ℕ = broadcast_item g k in
+      let each : sum_by (λ node. at_node node item) nodes ≡ sum_by (λ node. columns item) nodes =
+      same_sum_by (λ node. at_node node item) (λ node. columns item) nodes
+      (λ node c. three (is_started_on g node item) (is_sent_from g node item) (is_heard_at g node item) false
+      (node_of g (process_of g k) == node) (not (node_of g (process_of g k) == node)) (columns item)
+      (broadcast_started g node k)
+      (broadcast_sent g node k ∙ ap (λ b. b && (node_of g (process_of g k) == node)) answer)
+      (broadcast_heard g node k ∙ ap (λ b. b && not (node_of g (process_of g k) == node)) answer)
+      ∙ either (node_of g (process_of g k) == node) (columns item)) in
+      let all : sum_by (λ node. columns item) nodes ≡ length g.nodes * columns item =
+      sum_by_constant (columns item) nodes ∙ ap (λ n. n * columns item) (length-range_with_len 0 (length g.nodes)) in
+      let product : length g.nodes * columns item ≡ columns item * length g.nodes =
+      mul_comm (length g.nodes) (columns item) in
       omega (arith, each, all, product)
-  broadcast_by k false m =
-      let x : ℕ = broadcast_item g k in
+  broadcast_by k false answer =
+      let item : ℕ = broadcast_item g k in
       omega (
         arith,
-        sum_by_zeros (λ node. at_node node x) nodes
-            (λ node c. three (is_started_on g node x) (is_sent_from g node x)
-            (is_heard_at g node x) false false false (columns x)
+        sum_by_zeros (λ node. at_node node item) nodes
+            (λ node c. three (is_started_on g node item) (is_sent_from g node item)
+            (is_heard_at g node item) false false false (columns item)
             (broadcast_started g node k)
-            (broadcast_sent g node k ∙ ap (λ b. b && (node_of g (process_of g k) == node)) m)
-            (broadcast_heard g node k ∙ ap (λ b. b && not (node_of g (process_of g k) == node)) m)),
+            (broadcast_sent g node k ∙ ap (λ b. b && (node_of g (process_of g k) == node)) answer)
+            (broadcast_heard g node k ∙ ap (λ b. b && not (node_of g (process_of g k) == node)) answer)),
       )
 
   -- the columns that an item has at all nodes are at most its columns times the rows that it may have, by its kind: one
   -- row for a start, and as many as nodes start, send or hear it otherwise
   item_le : (x : ℕ) → x < item_count g → ItemCases g x →
       sum_by (λ node. at_node node x) nodes ≤ columns x * rows_of_item g (item_at g x)
-  item_le x l (inl c) = subst (λ i. sum_by (λ node. at_node node x) nodes ≤ columns x * rows_of_item g i) (sym c.1)
-      (omega (arith, start_le x c.0))
-  item_le x l (inr (inl c)) =
-      subst (λ i. sum_by (λ node. at_node node x) nodes ≤ columns x * rows_of_item g i) (sym c.3)
-      (subst (λ y. sum_by (λ node. at_node node y) nodes ≤ columns y * rows_of_item g (Message c.0)) (sym c.2)
-      (message_by c.0 c.1 (is_message g c.0) refl))
-  item_le x l (inr (inr c)) =
-      subst (λ i. sum_by (λ node. at_node node x) nodes ≤ columns x * rows_of_item g i) (sym c.3)
-      (subst (λ y. sum_by (λ node. at_node node y) nodes ≤ columns y * rows_of_item g (Broadcast c.0)) (sym c.2)
-      (broadcast_by c.0 (nat_lt 1 (length g.nodes)) refl))
+  item_le x is_item (inl kind) =
+      subst (λ i. sum_by (λ node. at_node node x) nodes ≤ columns x * rows_of_item g i) (sym kind.1)
+      (omega (arith, start_le x kind.0))
+  item_le x is_item (inr (inl kind)) =
+      subst (λ i. sum_by (λ node. at_node node x) nodes ≤ columns x * rows_of_item g i) (sym kind.3)
+      (subst (λ y. sum_by (λ node. at_node node y) nodes ≤ columns y * rows_of_item g (Message kind.0)) (sym kind.2)
+      (message_by kind.0 kind.1 (is_message g kind.0) refl))
+  item_le x is_item (inr (inr kind)) =
+      subst (λ i. sum_by (λ node. at_node node x) nodes ≤ columns x * rows_of_item g i) (sym kind.3)
+      (subst (λ y. sum_by (λ node. at_node node y) nodes ≤ columns y * rows_of_item g (Broadcast kind.0)) (sym kind.2)
+      (broadcast_by kind.0 (nat_lt 1 (length g.nodes)) refl))
 
   -- the rows of all nodes have at most the columns of each item times its rows: sum by item instead of by node
   pub rows_le : sum_by (λ node. column_count (rows_of_items g rows (lists_of (head_of g) node))) nodes
@@ -286,14 +293,14 @@ module _ (g : Graph) (within : IsWithinLimits g) (rows : List Row) where
     swapped at_node nodes (numbers_below (item_count g)),
     sum_by-le_each (λ x. sum_by (λ node. at_node node x) nodes) (λ x. columns x * rows_of_item g (item_at g x))
         (numbers_below (item_count g))
-        (λ x c. let l = numbers-Contains (item_count g) x c in item_le x l (item_cases g x l)),
+        (λ x c. let is_item = numbers-Contains (item_count g) x c in item_le x is_item (item_cases g x is_item)),
   )
 
   -- tables with writable rows have no more columns than tables may have: they have as many as the rows of their items,
   -- at most what `rows_le` says, and that is within the load of writable rows
   pub tables_le : (tables : List NodeTable) → AreNodeTables g rows (length g.nodes) tables → AreWritable g rows →
       sum_by (λ t. column_count (rows_of t)) tables ≤ MOST_LOAD
-  tables_le tables are w = omega (
+  tables_le tables are are_writable = omega (
     arith,
     -- the tables are one for each node
     ap (sum_by (λ t. column_count (rows_of t)))
@@ -304,5 +311,5 @@ module _ (g : Graph) (within : IsWithinLimits g) (rows : List Row) where
         (λ node. column_count (rows_of_items g rows (lists_of (head_of g) node))) nodes
         (λ node c. ap column_count (are.each node (numbers-Contains (length g.nodes) node c)).stands),
     rows_le,
-    w.loads,
+    are_writable.loads,
   )

@@ -43,30 +43,31 @@ module _ (g : Graph) (rows : List Row) (w : AreWritable g rows) where
 
   -- the row at a number is that of the item with this number
   pub item_is : (x : ℕ) → x < item_count g → (row_for rows x).item ≡ x
-  item_is x l = sym (get_or-map (λ (row : Row). row.item) rows x no_row 0 (omega (arith, l, long)))
-      ∙ ap (λ xs. get_or xs x 0) w.items ∙ get_or-range_with_len 0 (item_count g) x 0 l ∙ omega arith
+  item_is x is_item = sym (get_or-map (λ (row : Row). row.item) rows x no_row 0 (omega (arith, is_item, long)))
+      ∙ ap (λ xs. get_or xs x 0) w.items ∙ get_or-range_with_len 0 (item_count g) x 0 is_item ∙ omega arith
 
   -- the columns of each item's row are writable
   pub writable : (x : ℕ) → x < item_count g → All (IsWritable g) (row_for rows x).columns
-  writable x l = w.lawful x no_row (omega (arith, l, long))
+  writable x is_item = w.lawful x no_row (omega (arith, is_item, long))
 
   -- each item's row has at most as many columns as a row may have
   pub few_columns : (x : ℕ) → x < item_count g → length (row_for rows x).columns ≤ MOST_COLUMNS
-  few_columns x l = w.few x no_row (omega (arith, l, long))
+  few_columns x is_item = w.few x no_row (omega (arith, is_item, long))
 
 -- ---- numbers of items
 
 -- a number that a filter of the items lets pass is that of an item
 filter_below : (g : Graph) (p : ℕ → Bool) (x : ℕ) → Contains (filter p (numbers_below (item_count g))) x →
     x < item_count g
-filter_below g p x c = numbers-Contains (item_count g) x (Contains-filter_parts p (numbers_below (item_count g)) x c).0
+filter_below g p x among =
+    numbers-Contains (item_count g) x (Contains-filter_parts p (numbers_below (item_count g)) x among).0
 
 -- given: a graph within its limits, and a node
 module _ (g : Graph) (within : IsWithinLimits g) (node : ℕ) where
   -- what a node starts is an item of the graph
   pub start_below : (x : ℕ) → Contains (starts_of (head_of g) node) x → x < item_count g
-  start_below x c =
-      let there = subst (λ xs. Contains xs x) (starts_are g within node) c in
+  start_below x among =
+      let there = subst (λ xs. Contains xs x) (starts_are g within node) among in
       omega (
         arith,
         numbers-Contains (process_count g) x
@@ -75,17 +76,18 @@ module _ (g : Graph) (within : IsWithinLimits g) (node : ℕ) where
 
   -- what a node sends is an item of the graph
   pub send_below : (x : ℕ) → Contains (sends_of (head_of g) node) x → x < item_count g
-  send_below x c = filter_below g (λ y. is_sent g y && (home g y == node)) x
-      (subst (λ xs. Contains xs x) (sends_are g within node) c)
+  send_below x among = filter_below g (λ y. is_sent g y && (home g y == node)) x
+      (subst (λ xs. Contains xs x) (sends_are g within node) among)
 
   -- what a node hears is an item of the graph
   pub hear_below : node < length g.nodes → (x : ℕ) → Contains (hears_of (head_of g) node) x → x < item_count g
-  hear_below l x c = filter_below g (λ y. is_heard_by g node (item_at g y)) x
-      (subst (λ xs. Contains xs x) (hears_are g within node l) c)
+  hear_below is_node x among = filter_below g (λ y. is_heard_by g node (item_at g y)) x
+      (subst (λ xs. Contains xs x) (hears_are g within node is_node) among)
 
 -- if each element of a list is below m, and the list and m are equal to others, so is each element of those
 pub all_below : (n m : ℕ) (xs ys : List ℕ) → n ≡ m → xs ≡ ys → ((x : ℕ) → Contains ys x → x < m) → All (λ x. x < n) xs
-all_below n m xs ys e is each = rw (e, is) (All-weaker (Contains ys) (λ x. x < m) each ys (All-contains_itself ys))
+all_below n m xs ys same is each =
+    rw (same, is) (All-weaker (Contains ys) (λ x. x < m) each ys (All-contains_itself ys))
 
 -- ---- columns
 
@@ -94,23 +96,23 @@ module _ (g : Graph) (within : IsWithinLimits g) where
   -- a range of fault counts that ends at the greatest and isn't whole doesn't begin at 0
   part_of_count : (l : Literal) → l.variable < process_count g → is_whole g.faults l ≡ false → l.high ≡ g.faults →
       0 < l.low
-  part_of_count l v part e = elim (cases_lt 0 l.low) [
+  part_of_count l is_process part at_top = elim (cases_lt 0 l.low) [
     | inl some ↦ some
     | inr none ↦ absurd (both_ways (is_whole g.faults l) part
         (and_from (l.low == 0) (l.high == top g.faults l.variable) (eq-eqb l.low 0 (omega arith))
         (eq-eqb l.high (top g.faults l.variable)
-        (e ∙ sym (top_of_count g.faults l.variable (omega (arith, v, within.few_processes)))))))
+        (at_top ∙ sym (top_of_count g.faults l.variable (omega (arith, is_process, within.few_processes)))))))
   ]
 
   -- a range of values that isn't whole has one value
   one_value : (l : Literal) → 128 ≤ l.variable → l.low ≤ l.high → l.high ≤ 1 → is_whole g.faults l ≡ false →
       l.low ≡ l.high
-  one_value l v some high part = elim (cases_eq l.low l.high) [
+  one_value l is_value some high part = elim (cases_eq l.low l.high) [
     | inl same ↦ same
     | inr apart ↦ absurd (both_ways (is_whole g.faults l) part
         (and_from (l.low == 0) (l.high == top g.faults l.variable) (eq-eqb l.low 0 (omega (arith, apart, some, high)))
-        (eq-eqb l.high (top g.faults l.variable) (let e : l.high ≡ 1 = omega (arith, apart, some, high) in
-        e ∙ sym (top_of_value g.faults l.variable v)))))
+        (eq-eqb l.high (top g.faults l.variable) (let is_one : l.high ≡ 1 = omega (arith, apart, some, high) in
+        is_one ∙ sym (top_of_value g.faults l.variable is_value)))))
   ]
 
   -- a literal on a variable of the graph, with a range within that of the variable but not whole, is lawful under the
@@ -130,18 +132,29 @@ module _ (g : Graph) (within : IsWithinLimits g) where
 
   -- the literals of a writable column are lawful under the head
   lawful_literals : (c : Column) → IsWritable g c → All (IsLawfulLiteral (space_of (head_of g))) c.cube
-  lawful_literals c w = λ i d h.
-      lawful_literal (get_or c.cube i d) (w.cube.known i d h) (w.some i d h) (w.within i d h) (w.not_whole i d h)
+  lawful_literals c is_writable = λ i d h.
+      lawful_literal (get_or c.cube i d) (is_writable.cube.known i d h) (is_writable.some i d h)
+      (is_writable.within i d h) (is_writable.not_whole i d h)
 
   -- a writable column is lawful under the head
   lawful_column : (c : Column) → IsWritable g c → IsLawfulColumn (space_of (head_of g)) c
-  lawful_column c w = record { time = omega (arith, w.time); literals = lawful_literals c w; rising = w.cube.rising }
+  lawful_column c is_writable = record {
+    time = omega (arith, is_writable.time);
+    literals =
+        lawful_literals c is_writable;
+    rising = is_writable.cube.rising;
+  }
 
   -- a writable column is lawful also when it is later by less than 2^59, since its own time is below that
   later_column : (delay : ℕ) → delay < 2 ^ 59 → (c : Column) → IsWritable g c →
       IsLawfulColumn (space_of (head_of g)) (later_by delay c)
-  later_column delay short c w =
-      record { time = omega (arith, w.time, short); literals = lawful_literals c w; rising = w.cube.rising }
+  later_column delay short c is_writable =
+      record {
+        time = omega (arith, is_writable.time, short);
+        literals = lawful_literals c is_writable;
+        rising =
+            is_writable.cube.rising;
+      }
 
   -- a slot is shorter than 2^59
   pub slot_short : (node : ℕ) → slot_length g node < 2 ^ 59
@@ -151,21 +164,21 @@ module _ (g : Graph) (within : IsWithinLimits g) where
   module _ (rows : List Row) (w : AreWritable g rows) where
     -- the given row of each item is lawful
     lawful_row : (x : ℕ) → x < item_count g → IsLawfulRow (space_of (head_of g)) (row_for rows x)
-    lawful_row x l = record {
-      few = few_columns g rows w x l;
+    lawful_row x is_item = record {
+      few = few_columns g rows w x is_item;
       columns = All-weaker (IsWritable g) (IsLawfulColumn (space_of (head_of g))) lawful_column (row_for rows x).columns
-          (writable g rows w x l);
+          (writable g rows w x is_item);
     }
 
     -- the row that is heard of each item is lawful
     lawful_heard : (x : ℕ) → x < item_count g → IsLawfulRow (space_of (head_of g)) (heard_row g rows x)
-    lawful_heard x l =
+    lawful_heard x is_item =
         let delay : ℕ = slot_length g (home g x) in
         record {
-          few = omega (arith, few_columns g rows w x l, length-map (row_for rows x).columns (later_by delay));
+          few = omega (arith, few_columns g rows w x is_item, length-map (row_for rows x).columns (later_by delay));
           columns = All-map (IsLawfulColumn (space_of (head_of g))) (later_by delay) (row_for rows x).columns
               (All-weaker (IsWritable g) (λ c. IsLawfulColumn (space_of (head_of g)) (later_by delay c))
-              (later_column delay (slot_short (home g x))) (row_for rows x).columns (writable g rows w x l));
+              (later_column delay (slot_short (home g x))) (row_for rows x).columns (writable g rows w x is_item));
         }
 
     -- if a row for each item of the graph is lawful, so are all rows for some of the items

@@ -23,24 +23,24 @@ use Rattle.cpg_table.proofs.NodeRows.{no_row, long, item_is}
 
 -- ---- tests
 
--- if t holds, so does t or s
+-- if t holds, so does t or s, and with b that leaves b
 first_kind : (b t s : Bool) → t ≡ true → (b && (t || s)) ≡ b
-first_kind true t s e = ap (λ u. u || s) e
-first_kind false t s e = refl
+first_kind true t s holds = ap (λ u. u || s) holds
+first_kind false t s holds = refl
 
--- if t doesn't hold, t or s is s
+-- if t doesn't hold, t or s is s, and with b that leaves s and b
 later_kind : (b t s : Bool) → t ≡ false → (b && (t || s)) ≡ (s && b)
-later_kind true true s e = absurd (true≢false e)
-later_kind true false true e = refl
-later_kind true false false e = refl
-later_kind false t true e = refl
-later_kind false t false e = refl
+later_kind true true s fails = absurd (true≢false fails)
+later_kind true false true fails = refl
+later_kind true false false fails = refl
+later_kind false t true fails = refl
+later_kind false t false fails = refl
 
 -- an item with the node h that n starts or sends (h is n, and s) isn't started or sent by another node m
 one_home : (h m n : ℕ) (s : Bool) → m ≢ n → not ((h == n) && s) ≡ false → ((h == m) && s) ≡ false
-one_home h m n s apart e = elim (cases_eq h n) [
+one_home h m n s apart kept = elim (cases_eq h n) [
   | inl here ↦ ap (λ b. b && s) (ne_eqb h m (λ there. apart (sym there ∙ here)))
-  | inr away ↦ absurd (true≢false (sym (ap (λ b. not (b && s)) (ne_eqb h n away)) ∙ e))
+  | inr away ↦ absurd (true≢false (sym (ap (λ b. not (b && s)) (ne_eqb h n away)) ∙ kept))
 ]
 
 -- ---- lists
@@ -59,32 +59,32 @@ module _ {X : Type 0} (p q : X → Bool) (none : (x : X) → q x ≡ false → p
 
 -- given: a list; `out` are those of it that passed so far, and x is the first of those left
 module _ {X : Type 0} (p : X → Bool) (all out left rest : List X) (x : X) (is : left ≡ x ∷ rest)
-    (e : filter p all ≡ out ++ filter p left) where
+    (so_far : filter p all ≡ out ++ filter p left) where
   -- if x passes, it is moved to those that passed
   pub filter_moved : p x ≡ true → (more : List X) → more ≡ out ++ x ∷ [] → filter p all ≡ more ++ filter p rest
-  filter_moved on more m =
-      e ∙ ap (λ ls. out ++ filter p ls) is ∙ ap (λ b. out ++ cond b (x ∷ filter p rest) (filter p rest)) on
-      ∙ sym (ap (λ ms. ms ++ filter p rest) m ∙ append_assoc out (x ∷ []) (filter p rest))
+  filter_moved on more more_is =
+      so_far ∙ ap (λ ls. out ++ filter p ls) is ∙ ap (λ b. out ++ cond b (x ∷ filter p rest) (filter p rest)) on
+      ∙ sym (ap (λ ms. ms ++ filter p rest) more_is ∙ append_assoc out (x ∷ []) (filter p rest))
 
   -- if x fails, it is left out
   pub filter_left : p x ≡ false → filter p all ≡ out ++ filter p rest
   filter_left off =
-      e ∙ ap (λ ls. out ++ filter p ls) is ∙ ap (λ b. out ++ cond b (x ∷ filter p rest) (filter p rest)) off
+      so_far ∙ ap (λ ls. out ++ filter p ls) is ∙ ap (λ b. out ++ cond b (x ∷ filter p rest) (filter p rest)) off
 
 -- given that the elements of a list, seen by `view`, are what f makes of numbers
 module _ {X Y : Type 0} (view : X → Y) (f : ℕ → Y) where
   -- if these are the numbers below n, there are n elements
   pub view_count : (n : ℕ) (xs : List X) → map view xs ≡ map f (numbers_below n) → length xs ≡ n
-  view_count n xs e = sym (length-map xs view) ∙ ap length e ∙ length-map-range_with_len f 0 n
+  view_count n xs seen = sym (length-map xs view) ∙ ap length seen ∙ length-map-range_with_len f 0 n
 
   -- with an element seen as f n at the end, they are what f makes of the numbers below n + 1
   pub view_more : (n : ℕ) (xs more : List X) (x : X) → map view xs ≡ map f (numbers_below n) → view x ≡ f n →
       more ≡ xs ++ x ∷ [] →
       map view more ≡ map f (numbers_below (n + 1))
-  view_more n xs more x e new is =
+  view_more n xs more x seen new is =
       let next : numbers_below (n + 1) ≡ numbers_below n ++ n ∷ [] =
-      range-append 0 n 1 ∙ ap (λ k. numbers_below n ++ k ∷ []) (let z : 0 + n ≡ n = omega arith in z) in
-      ap (map view) is ∙ map-append view xs (x ∷ []) ∙ ap₂ (λ ys zs. ys ++ zs) e (ap (λ y. y ∷ []) new)
+      range-append 0 n 1 ∙ ap (λ k. numbers_below n ++ k ∷ []) (let same : 0 + n ≡ n = omega arith in same) in
+      ap (map view) is ∙ map-append view xs (x ∷ []) ∙ ap₂ (λ ys zs. ys ++ zs) seen (ap (λ y. y ∷ []) new)
       ∙ sym (ap (map f) next ∙ map-append f (numbers_below n) (n ∷ []))
 
   -- if these are the numbers from n on, the first element is seen as f n, and the rest as f from n + 1 on
@@ -92,9 +92,9 @@ module _ {X Y : Type 0} (view : X → Y) (f : ℕ → Y) where
       map view left ≡ map f (range_with_len n (length left)) →
       (view x ≡ f n) ×
       (map view rest ≡ map f (range_with_len (n + 1) (length rest)))
-  view_first n left rest x is e =
+  view_first n left rest x is seen =
       let here : view x ∷ map view rest ≡ f n ∷ map f (range_with_len (n + 1) (length rest)) =
-      subst (λ ls. map view ls ≡ map f (range_with_len n (length ls))) is e in
+      subst (λ ls. map view ls ≡ map f (range_with_len n (length ls))) is seen in
       (ap (λ ys. get_or ys 0 (f n)) here, ap (drop 1) here)
 
 -- ---- the rows of a node
@@ -108,16 +108,16 @@ still_there g m n rows apart =
 
 -- writable rows are all of items of the graph
 pub all_known : (g : Graph) (rows : List Row) → AreWritable g rows → All (λ row. row.item < item_count g) rows
-all_known g rows w k d l =
-    let m : k < item_count g = omega (arith, l, long g rows w) in
-    subst (λ (row : Row). row.item < item_count g) (get_or_default rows k no_row d l)
-    (subst (λ n. n < item_count g) (sym (item_is g rows w k m)) m)
+all_known g rows are_writable k d inside =
+    let is_item : k < item_count g = omega (arith, inside, long g rows are_writable) in
+    subst (λ (row : Row). row.item < item_count g) (get_or_default rows k no_row d inside)
+    (subst (λ n. n < item_count g) (sym (item_is g rows are_writable k is_item)) is_item)
 
 -- if rows are of items of the graph, so are those that a node neither starts nor sends
 pub still_known : (g : Graph) (node : ℕ) (rows : List Row) → All (λ row. row.item < item_count g) rows →
     All (λ row. row.item < item_count g) (other_rows g node rows)
-still_known g node rows h =
-    All-filter (λ (row : Row). not (has_own g node row.item)) (λ (row : Row). row.item < item_count g) rows h
+still_known g node rows known =
+    All-filter (λ (row : Row). not (has_own g node row.item)) (λ (row : Row). row.item < item_count g) rows known
 
 -- given: a graph within its limits, and a node
 module _ (g : Graph) (within : IsWithinLimits g) (node : ℕ) where
@@ -127,12 +127,14 @@ module _ (g : Graph) (within : IsWithinLimits g) (node : ℕ) where
 
   -- a node starts or sends the item of a process exactly if the process is on it
   own_start : (x : ℕ) → x < process_count g → has_own g node x ≡ (node_of g x == node)
-  own_start x l = first_kind (home g x == node) (ltb x (process_count g)) (is_sent g x) (lt-ltb x (process_count g) l)
-      ∙ ap (λ i. node_of g (producer_of_item g i) == node) (item_at-start g x l)
+  own_start x is_process =
+      first_kind (home g x == node) (ltb x (process_count g)) (is_sent g x) (lt-ltb x (process_count g) is_process)
+      ∙ ap (λ i. node_of g (producer_of_item g i) == node) (item_at-start g x is_process)
 
   -- a node starts or sends another item exactly if it sends it
   own_later : (x : ℕ) → process_count g ≤ x → has_own g node x ≡ is_sent_here x
-  own_later x l = later_kind (home g x == node) (ltb x (process_count g)) (is_sent g x) (le-ltb x (process_count g) l)
+  own_later x past =
+      later_kind (home g x == node) (ltb x (process_count g)) (is_sent g x) (le-ltb x (process_count g) past)
 
   -- the items that a node starts or sends, by number, are its starts and then its sends: part by part of the numbers
   own_items : filter (has_own g node) (numbers_below (item_count g)) ≡ starts_of (head_of g) node
@@ -148,7 +150,7 @@ module _ (g : Graph) (within : IsWithinLimits g) (node : ℕ) where
       (same_filter (has_own g node) is_sent_here messages
       (λ x c. own_later x (from_range (process_count g) (edge_count g) x c).0))
       (same_filter (has_own g node) is_sent_here broadcasts (λ x c. own_later x
-      (let r = from_range (process_count g + edge_count g) (condition_count g) x c in omega (arith, r.0))))
+      (let bounds = from_range (process_count g + edge_count g) (condition_count g) x c in omega (arith, bounds.0))))
       ∙ sym (ap₂ (λ xs ys. xs ++ ys) (sent_messages g within node) (sent_broadcasts g within node)))
 
   -- given: writable rows of the graph

@@ -42,13 +42,13 @@ module _ (x : ℕ) where
   columns_step : (tables : List NodeTable) (node : ℕ) → node < length tables → columns_of (drop node tables) x
       ≡ unwrap_or (row_columns (table_at tables node).starts x)
       (unwrap_or (row_columns (table_at tables node).sends x) (columns_of (drop (node + 1) tables) x))
-  columns_step tables node h =
-      let t : NodeTable = table_at tables node in
+  columns_step tables node is_node =
+      let table : NodeTable = table_at tables node in
       let more : List Row = flat_map (λ (t : NodeTable). t.starts ++ t.sends) (drop (node + 1) tables) in
-      ap (λ ts. columns_of ts x) (drop_more tables node empty_table h)
-      ∙ ap (λ rs. columns_in rs x) (append_assoc t.starts t.sends more)
-      ∙ columns_in-append t.starts (t.sends ++ more)
-      ∙ ap (unwrap_or (row_columns t.starts x)) (columns_in-append t.sends more)
+      ap (λ ts. columns_of ts x) (drop_more tables node empty_table is_node)
+      ∙ ap (λ rs. columns_in rs x) (append_assoc table.starts table.sends more)
+      ∙ columns_in-append table.starts (table.sends ++ more)
+      ∙ ap (unwrap_or (row_columns table.starts x)) (columns_in-append table.sends more)
 
   -- given that the tables before a node have no row of x
   module _ (tables : List NodeTable) (node : ℕ) (h : node < length tables)
@@ -56,26 +56,27 @@ module _ (x : ℕ) where
     -- if this table has a start row of x, it has the columns of x
     pub found_start : (cs : List Column) → row_columns (table_at tables node).starts x ≡ Some cs →
         cs ≡ columns_of tables x
-    found_start cs e = sym (so_far ∙ columns_step tables node h ∙ ap (λ o.
-        unwrap_or o (unwrap_or (row_columns (table_at tables node).sends x) (columns_of (drop (node + 1) tables) x))) e)
+    found_start cs found = sym (so_far ∙ columns_step tables node h ∙ ap (λ o.
+        unwrap_or o (unwrap_or (row_columns (table_at tables node).sends x) (columns_of (drop (node + 1) tables) x)))
+        found)
 
     -- if this table has no row of x, its columns are found in the tables after it
     pub found_none : row_columns (table_at tables node).starts x ≡ None →
         row_columns (table_at tables node).sends x ≡ None →
         columns_of tables x ≡ columns_of (drop (node + 1) tables) x
-    found_none e f = so_far ∙ columns_step tables node h
+    found_none none f = so_far ∙ columns_step tables node h
         ∙ ap (λ o. unwrap_or o
-        (unwrap_or (row_columns (table_at tables node).sends x) (columns_of (drop (node + 1) tables) x))) e
+        (unwrap_or (row_columns (table_at tables node).sends x) (columns_of (drop (node + 1) tables) x))) none
         ∙ ap (λ o. unwrap_or o (columns_of (drop (node + 1) tables) x)) f
 
     -- if this table has no start row but a send row of x, that has the columns of x
     pub found_send : (cs : List Column) → row_columns (table_at tables node).starts x ≡ None →
         row_columns (table_at tables node).sends x ≡ Some cs →
         cs ≡ columns_of tables x
-    found_send cs e f = sym (so_far ∙ columns_step tables node h
+    found_send cs none found = sym (so_far ∙ columns_step tables node h
         ∙ ap (λ o. unwrap_or o
-        (unwrap_or (row_columns (table_at tables node).sends x) (columns_of (drop (node + 1) tables) x))) e
-        ∙ ap (λ o. unwrap_or o (columns_of (drop (node + 1) tables) x)) f)
+        (unwrap_or (row_columns (table_at tables node).sends x) (columns_of (drop (node + 1) tables) x))) none
+        ∙ ap (λ o. unwrap_or o (columns_of (drop (node + 1) tables) x)) found)
 
   -- x has no more columns than all rows have
   columns_within : (rows : List Row) → length (columns_in rows x) ≤ column_count rows
@@ -111,6 +112,6 @@ rows_within (t ∷ ts) =
 pub columns_few : (h : Head) (tables : List NodeTable) → AreTablesOf h tables → (x : ℕ) →
     length (columns_of tables x) ≤ MOST_LOAD
 columns_few h tables are x =
-    let a = columns_within x (flat_map (λ (t : NodeTable). t.starts ++ t.sends) tables) in
-    let b = rows_within tables in
-    omega (arith, a, b, are.few)
+    let of_item = columns_within x (flat_map (λ (t : NodeTable). t.starts ++ t.sends) tables) in
+    let of_all = rows_within tables in
+    omega (arith, of_item, of_all, are.few)

@@ -48,8 +48,8 @@ module _ {X : Type 0} (a b d x y z : List X) (is : a ++ (b ++ d) ≡ x ++ (y ++ 
 
 -- a list that contains nothing is empty
 nothing : (cs : List Column) → ((c : Column) → Contains cs c → ⊥) → cs ≡ []
-nothing [] h = refl
-nothing (c ∷ cs) h = absurd (h c (Contains-first c cs))
+nothing [] none = refl
+nothing (c ∷ cs) none = absurd (none c (Contains-first c cs))
 
 -- given: tables that have the writable rows of a graph
 -- `within`, `formed`: a well-formed graph within the limits; `rows`, `w`: its writable rows; `tables`, `are`: the
@@ -73,7 +73,8 @@ module _ (g : Graph) (within : IsWithinLimits g) (formed : WellFormed g) (rows :
   module _ (node : ℕ) (l : node < length g.nodes) where
     -- rows of some items are as many as the rows that are made for these items
     count_by_items : (row : ℕ → Row) (rs : List Row) (xs : List ℕ) → items_of rs ≡ xs → length rs ≡ length (map row xs)
-    count_by_items row rs xs e = sym (length-map rs (λ (r : Row). r.item)) ∙ ap length e ∙ sym (length-map xs row)
+    count_by_items row rs xs items_are =
+        sym (length-map rs (λ (r : Row). r.item)) ∙ ap length items_are ∙ sym (length-map xs row)
 
     -- a node has a row for each item that it starts
     start_count : length (table_at tables node).starts ≡ length (map (row_for rows) (items node).starts)
@@ -108,16 +109,18 @@ module _ (g : Graph) (within : IsWithinLimits g) (formed : WellFormed g) (rows :
         rs ≡ map (row_for rows) xs →
         Contains rs row →
         row.columns ≡ (row_for rows row.item).columns
-    from_rows xs below rs row e k =
-        let m = Contains-map_parts (row_for rows) xs row (subst (λ qs. Contains qs row) e k) in
-        let same : row.item ≡ m.0 = ap (λ (r : Row). r.item) (sym m.2) ∙ item_is g rows w m.0 (below m.0 m.1) in
-        ap (λ (r : Row). r.columns) (sym m.2) ∙ ap (λ x. (row_for rows x).columns) (sym same)
+    from_rows xs below rs row made among =
+        let found = Contains-map_parts (row_for rows) xs row (subst (λ qs. Contains qs row) made among) in
+        let same : row.item ≡ found.0 =
+        ap (λ (r : Row). r.item) (sym found.2) ∙ item_is g rows w found.0 (below found.0 found.1) in
+        ap (λ (r : Row). r.columns) (sym found.2) ∙ ap (λ x. (row_for rows x).columns) (sym same)
 
     -- each start or send row of the node has the columns of the given row of its item
     row_is : (row : Row) → Contains (rows_at tables node) row → row.columns ≡ (row_for rows row.item).columns
-    row_is row k = elim (Contains-append_cases (table_at tables node).starts (table_at tables node).sends row k) [
-      | inl m ↦ from_rows (items node).starts (start_below g within node) (table_at tables node).starts row starts m
-      | inr m ↦ from_rows (items node).sends (send_below g within node) (table_at tables node).sends row sends m
+    row_is row has = elim (Contains-append_cases (table_at tables node).starts (table_at tables node).sends row has) [
+      | inl start ↦ from_rows (items node).starts (start_below g within node) (table_at tables node).starts row starts
+          start
+      | inr send ↦ from_rows (items node).sends (send_below g within node) (table_at tables node).sends row sends send
     ]
 
   -- an item that is no process and isn't sent is of neither kind
@@ -128,44 +131,47 @@ module _ (g : Graph) (within : IsWithinLimits g) (formed : WellFormed g) (rows :
   -- an item with a row at its node has the columns of its given row
   stands : (x : ℕ) → HasRow g (home g x) x → columns_of tables x ≡ (row_for rows x).columns
   stands x has =
-      let l : home g x < length g.nodes = home_within formed shape x has.within in
-      let r = row_of formed shape (home g x) x l has in
-      subst (λ y. columns_of tables y ≡ (row_for rows y).columns) r.2
-      (row_columns formed shape (home g x) l r.0 r.1 ∙ row_is (home g x) l r.0 r.1)
+      let is_node : home g x < length g.nodes = home_within formed shape x has.within in
+      let found = row_of formed shape (home g x) x is_node has in
+      subst (λ y. columns_of tables y ≡ (row_for rows y).columns) found.2
+      (row_columns formed shape (home g x) is_node found.0 found.1 ∙ row_is (home g x) is_node found.0 found.1)
 
   -- each item of the graph has those columns: it is a process, or sent, or has no column in the tables and none in its
   -- given row
   within_count : (x : ℕ) → x < item_count g → columns_of tables x ≡ (row_for rows x).columns
-  within_count x l = elim (cases_lt x (process_count g)) [
-    | inl start ↦ stands x (record { within = l; home = refl; kind = inl start })
+  within_count x is_item = elim (cases_lt x (process_count g)) [
+    | inl start ↦ stands x (record { within = is_item; home = refl; kind = inl start })
     | inr later ↦ elim (cases_Bool (is_sent g x)) [
-      | inl sent ↦ stands x (record { within = l; home = refl; kind = inr sent })
-      | inr unsent ↦ nothing (columns_of tables x) (λ c k. neither x later unsent (has_row formed shape x c k).kind)
-          ∙ sym (w.unsent x later l unsent)
+      | inl sent ↦ stands x (record { within = is_item; home = refl; kind = inr sent })
+      | inr unsent ↦ nothing (columns_of tables x)
+          (λ c column_there. neither x later unsent (has_row formed shape x c column_there).kind)
+          ∙ sym (w.unsent x later is_item unsent)
     ]
   ]
 
   -- any number has them: one that is no item has no columns, and no given row
   pub columns : (x : ℕ) → columns_of tables x ≡ (row_for rows x).columns
   columns x = elim (cases_lt x (item_count g)) [
-    | inl l ↦ within_count x l
-    | inr past ↦ nothing (columns_of tables x) (λ c k. let l = (has_row formed shape x c k).within in
+    | inl inside ↦ within_count x inside
+    | inr past ↦ nothing (columns_of tables x)
+        (λ c column_there. let inside = (has_row formed shape x c column_there).within in
         absurd (omega arith))
         ∙ sym (ap (λ (row : Row). row.columns) (get_or_past rows x no_row (omega (arith, past, long g rows w))))
   ]
 
   -- the hear rows of a node are those of V10: made for what it hears, with the columns of the given rows
   pub heard_rows : (node : ℕ) (u : NodeTable) → slice_get tables node ≡ Some u → u.hears ≡ hear_rows g tables node
-  heard_rows node u e =
-      let l : node < length g.nodes = omega (arith, slice_get_within tables node u e, are.long) in
-      ap (λ (t : NodeTable). t.hears) (sym (get_or_from_slice_get tables node u empty_table e)) ∙ hears node l
-      ∙ ap (map (heard_row g rows)) (hears_are g within node l)
+  heard_rows node u at_node =
+      let is_node : node < length g.nodes = omega (arith, slice_get_within tables node u at_node, are.long) in
+      ap (λ (t : NodeTable). t.hears) (sym (get_or_from_slice_get tables node u empty_table at_node))
+      ∙ hears node is_node
+      ∙ ap (map (heard_row g rows)) (hears_are g within node is_node)
       ∙ same_map (heard_row g rows) (hear_row g tables) (heard_by g node)
       (λ x c. same_row x _ _ (ap (map (later_by (slot_length g (home g x)))) (sym (columns x))))
     where
       same_row : (x : ℕ) (a b : List Column) → a ≡ b →
           (let row : Row = record { item = x; columns = a } in row) ≡ record { item = x; columns = b }
-      same_row x a b e = cc
+      same_row x a b same = cc
 
   -- tables under the head of the graph with these node tables are tables with the given rows, as `AreTablesWith` says
   pub tables_with : (t : Tables) → t.head ≡ head_of g → t.nodes ≡ tables → AreTablesWith g rows t
@@ -185,13 +191,14 @@ pub table_pushed : (g : Graph) (rows : List Row) (n : ℕ) (tables more : List N
     AreNodeTables g rows (n + 1) more
 table_pushed g rows n tables more t were new is = record {
   long = omega (arith, ap length is, length-append tables (t ∷ []), were.long);
-  each = λ node l. elim (cases_lt node n) [
-    | inl h ↦ subst (IsTableWith g rows node) (sym (ap (λ ts. table_at ts node) is
-        ∙ get_or_append_left tables (t ∷ []) empty_table node (omega (arith, h, were.long)))) (were.each node h)
-    | inr h ↦
-        let at : node ≡ length tables = omega (arith, l, h, were.long) in
+  each = λ node within. elim (cases_lt node n) [
+    | inl before ↦ subst (IsTableWith g rows node) (sym (ap (λ ts. table_at ts node) is
+        ∙ get_or_append_left tables (t ∷ []) empty_table node (omega (arith, before, were.long))))
+        (were.each node before)
+    | inr last ↦
+        let at : node ≡ length tables = omega (arith, within, last, were.long) in
         let here : table_at more node ≡ t = ap₂ table_at is at ∙ get_or-append_seam tables t [] empty_table in
         subst (IsTableWith g rows node) (sym here)
-        (subst (λ j. IsTableWith g rows j t) (let e : n ≡ node = omega (arith, l, h) in e) new)
+        (subst (λ j. IsTableWith g rows j t) (let same : n ≡ node = omega (arith, within, last) in same) new)
   ];
 }

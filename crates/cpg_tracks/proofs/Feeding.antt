@@ -36,23 +36,24 @@ module _ (g : Graph) (o : List Bool) (starts : List (Option ℕ)) where
 
   -- a process that can't be placed isn't added
   pub feeds_none : (p : ℕ) (fed : List FedProcess) → (IsFed g o starts p → ⊥) → Feeds g o starts p fed fed
-  feeds_none p fed h = record { each = λ k. k; kept = λ q k. k; added = λ f. absurd (h f) }
+  feeds_none p fed cannot =
+      record { each = λ listed. listed; kept = λ q listed. listed; added = λ can. absurd (cannot can) }
 
   -- A process that can be placed is added, with the time at which it is ready.
   -- What is in the new list was in the old one, or is the process itself.
   pub feeds_one : (p ready : ℕ) (fed : List FedProcess) → IsFed g o starts p → ready ≡ ready_at g o starts p →
       Feeds g o starts p fed (fed ++ (record { process = p; ready = ready }) ∷ [])
   feeds_one p ready fed is at = record {
-    each = λ h f k. elim (Contains-append_cases fed (one ∷ []) f k) [
-      | inl m ↦ h f m
-      | inr m ↦ elim (Contains-cases one [] f m) [
+    each = λ old_each entry listed. elim (Contains-append_cases fed (one ∷ []) entry listed) [
+      | inl in_old ↦ old_each entry in_old
+      | inr in_last ↦ elim (Contains-cases one [] entry in_last) [
         | inl same ↦ subst (IsFedAt g o starts) same (record { fed = is; ready = at })
-        | inr none ↦ absurd (Contains-nil f none)
+        | inr none ↦ absurd (Contains-nil entry none)
       ]
     ];
-    kept = λ q k. subst (λ xs. Contains xs q) (sym (processes_push fed one))
-        (Contains-append_left (processes_of fed) (p ∷ []) q k);
-    added = λ f. subst (λ xs. Contains xs p) (sym (processes_push fed one))
+    kept = λ q listed. subst (λ xs. Contains xs q) (sym (processes_push fed one))
+        (Contains-append_left (processes_of fed) (p ∷ []) q listed);
+    added = λ can. subst (λ xs. Contains xs p) (sym (processes_push fed one))
         (Contains-append_right (processes_of fed) (p ∷ []) p (Contains-first p []));
   }
     where
@@ -66,9 +67,9 @@ module _ (g : Graph) (o : List Bool) (starts : List (Option ℕ)) where
   pub fed_below : (p : ℕ) (old new : List FedProcess) → Feeds g o starts p old new →
       ((q : ℕ) → q < p → IsFed g o starts q → Contains (processes_of old) q) → (q : ℕ) → q < p + 1 →
       IsFed g o starts q → Contains (processes_of new) q
-  fed_below p old new feeds h q l f = elim (cases_eq q p) [
-    | inl is ↦ subst (Contains (processes_of new)) (sym is) (feeds.added (subst (IsFed g o starts) is f))
-    | inr ne ↦ feeds.kept q (h q (omega (arith, l, ne)) f)
+  fed_below p old new feeds below q up_to can = elim (cases_eq q p) [
+    | inl is ↦ subst (Contains (processes_of new)) (sym is) (feeds.added (subst (IsFed g o starts) is can))
+    | inr is_other ↦ feeds.kept q (below q (omega (arith, up_to, is_other)) can)
   ]
 
   -- ---- the targets of p's outputs are asked in turn
@@ -80,18 +81,18 @@ module _ (g : Graph) (o : List Bool) (starts : List (Option ℕ)) where
 
   -- of no edges all targets that can be placed are there
   pub no_targets : (fed : List FedProcess) → AreTargetsFed [] fed
-  no_targets fed e k is f = absurd (Contains-nil e k)
+  no_targets fed e nothing is can = absurd (Contains-nil e nothing)
 
   -- The target of one more live edge is there, if it can be placed.
   -- An edge is one of those before, whose target is kept, or e, whose target is fed now.
   pub target_asked : (es : List ℕ) (e : ℕ) (old new : List FedProcess) → Feeds g o starts (target g e) old new →
       AreTargetsFed es old →
       AreTargetsFed (es ++ e ∷ []) new
-  target_asked es e old new feeds h x k is f = elim (Contains-append_cases es (e ∷ []) x k) [
-    | inl m ↦ feeds.kept (target g x) (h x m is f)
-    | inr m ↦ elim (Contains-cases e [] x m) [
+  target_asked es e old new feeds before x listed is can = elim (Contains-append_cases es (e ∷ []) x listed) [
+    | inl in_front ↦ feeds.kept (target g x) (before x in_front is can)
+    | inr in_last ↦ elim (Contains-cases e [] x in_last) [
       | inl same ↦ subst (λ y. Contains (processes_of new) (target g y)) same
-          (feeds.added (subst (λ y. IsFed g o starts (target g y)) (sym same) f))
+          (feeds.added (subst (λ y. IsFed g o starts (target g y)) (sym same) can))
       | inr none ↦ absurd (Contains-nil x none)
     ]
   ]
@@ -100,9 +101,9 @@ module _ (g : Graph) (o : List Bool) (starts : List (Option ℕ)) where
   -- A live edge is one of those before.
   pub target_passed : (es : List ℕ) (e : ℕ) (fed : List FedProcess) → live g o e ≡ false → AreTargetsFed es fed →
       AreTargetsFed (es ++ e ∷ []) fed
-  target_passed es e fed off h x k is f = elim (Contains-append_cases es (e ∷ []) x k) [
-    | inl m ↦ h x m is f
-    | inr m ↦ elim (Contains-cases e [] x m) [
+  target_passed es e fed off before x listed is can = elim (Contains-append_cases es (e ∷ []) x listed) [
+    | inl in_front ↦ before x in_front is can
+    | inr in_last ↦ elim (Contains-cases e [] x in_last) [
       | inl same ↦ absurd (both_ways (live g o x) (ap (live g o) (sym same) ∙ off) is)
       | inr none ↦ absurd (Contains-nil x none)
     ]
@@ -114,11 +115,12 @@ module _ (g : Graph) (o : List Bool) (starts : List (Option ℕ)) where
       ((f : FedProcess) → Contains new f → IsFedAt g o starts f) →
       ((q : ℕ) → Contains (processes_of old) q → Contains (processes_of new) q) → AreTargetsFed (outputs g p) new →
       AreFed g o starts new
-  all_targets_asked p old new h each kept targets = record {
+  all_targets_asked p old new old_are each kept targets = record {
     each = each;
-    all = λ q f. elim (h.all q f) [
-      | inl k ↦ kept q k
-      | inr x ↦ subst (Contains (processes_of new)) x.3 (targets x.0 x.1 x.2 (subst (IsFed g o starts) (sym x.3) f))
+    all = λ q can. elim (old_are.all q can) [
+      | inl in_old ↦ kept q in_old
+      | inr waited ↦ subst (Contains (processes_of new)) waited.3
+          (targets waited.0 waited.1 waited.2 (subst (IsFed g o starts) (sym waited.3) can))
     ];
   }
 
@@ -130,12 +132,15 @@ pub mark_set : (marks : List Bool) (qs : List ℕ) (p : ℕ) → p < length mark
     ((q : ℕ) → Contains qs q → get_or marks q false ≡ true) → (q : ℕ) →
     Contains (qs ++ p ∷ []) q →
     get_or (set marks p true) q false ≡ true
-mark_set marks qs p l h q k = elim (cases_eq q p) [
-  | inl e ↦ ap (λ x. get_or (set marks p true) x false) e ∙ get_or-set_same marks p true false l
-  | inr ne ↦ get_or-set_other marks p q true false ne ∙ elim (Contains-append_cases qs (p ∷ []) q k) [
-    | inl m ↦ h q m
-    | inr m ↦
-        elim (Contains-cases p [] q m) [ inl same ↦ absurd (ne (sym same)) | inr none ↦ absurd (Contains-nil q none) ]
+mark_set marks qs p inside marked q listed = elim (cases_eq q p) [
+  | inl is_p ↦ ap (λ x. get_or (set marks p true) x false) is_p ∙ get_or-set_same marks p true false inside
+  | inr is_other ↦ get_or-set_other marks p q true false is_other ∙ elim (Contains-append_cases qs (p ∷ []) q listed) [
+    | inl in_front ↦ marked q in_front
+    | inr in_last ↦
+        elim (Contains-cases p [] q in_last) [
+          | inl same ↦ absurd (is_other (sym same))
+          | inr none ↦ absurd (Contains-nil q none)
+        ]
   ]
 ]
 
@@ -143,9 +148,10 @@ mark_set marks qs p l h q k = elim (cases_eq q p) [
 pub mark_only : (marks : List Bool) (qs : List ℕ) (p : ℕ) → ((q : ℕ) → get_or marks q false ≡ true → Contains qs q) →
     (q : ℕ) → get_or (set marks p true) q false ≡ true →
     Contains (qs ++ p ∷ []) q
-mark_only marks qs p h q k = elim (cases_eq q p) [
-  | inl e ↦ subst (Contains (qs ++ p ∷ [])) (sym e) (Contains-append_right qs (p ∷ []) p (Contains-first p []))
-  | inr ne ↦ Contains-append_left qs (p ∷ []) q (h q (sym (get_or-set_other marks p q true false ne) ∙ k))
+mark_only marks qs p only q is_set = elim (cases_eq q p) [
+  | inl is_p ↦ subst (Contains (qs ++ p ∷ [])) (sym is_p) (Contains-append_right qs (p ∷ []) p (Contains-first p []))
+  | inr is_other ↦ Contains-append_left qs (p ∷ []) q
+      (only q (sym (get_or-set_other marks p q true false is_other) ∙ is_set))
 ]
 
 -- Marks for exactly the active processes say of each process whether it is active.
@@ -157,19 +163,19 @@ pub marks_done : (g : Graph) (t : Track) → IsTrackOf g t → (marks : List Boo
 marks_done g t track marks count marked only =
     ext_get_or false marks (map (active g t.outcome) (numbers_below (process_count g)))
     (count ∙ sym (length-map-range_with_len (active g t.outcome) 0 (process_count g)))
-    (λ p l. let m : p < process_count g = omega (arith, l, count) in
+    (λ p below. let inside : p < process_count g = omega (arith, below, count) in
     same_truth (get_or marks p false) (active g t.outcome p)
-    (λ e. (Contains-filter_parts (active g t.outcome) (numbers_below (process_count g)) p
-    (subst (λ xs. Contains xs p) track.active (only p e))).1)
-    (λ e. marked p (subst (λ xs. Contains xs p) (sym track.active) (Contains-filter (active g t.outcome)
-    (numbers_below (process_count g)) p e (Contains-numbers (process_count g) p m))))
-    ∙ sym (get_or-map-below (active g t.outcome) (process_count g) p false m))
+    (λ is_set. (Contains-filter_parts (active g t.outcome) (numbers_below (process_count g)) p
+    (subst (λ xs. Contains xs p) track.active (only p is_set))).1)
+    (λ is_set. marked p (subst (λ xs. Contains xs p) (sym track.active) (Contains-filter (active g t.outcome)
+    (numbers_below (process_count g)) p is_set (Contains-numbers (process_count g) p inside))))
+    ∙ sym (get_or-map-below (active g t.outcome) (process_count g) p false inside))
 
 -- ---- a process is placed
 
 -- given: p is the process to place next
-module _ (g : Graph) (w : WellFormed g) (o : List Bool) (s : List (Option ℕ)) (h : IsPlacing g o s) (p : ℕ)
-    (n : IsNext g o s p) where
+module _ (g : Graph) (well : WellFormed g) (o : List Bool) (s : List (Option ℕ)) (placing : IsPlacing g o s) (p : ℕ)
+    (is_next : IsNext g o s p) where
   -- whether a process isn't the placed one
   abbrev is_other : FedProcess → Bool
   is_other f = not (f.process == p)
@@ -179,28 +185,35 @@ module _ (g : Graph) (w : WellFormed g) (o : List Bool) (s : List (Option ℕ)) 
   fed_after : (fed : List FedProcess) → AreFed g o s fed →
       AreFedBut g o (set s p (Some (would_start g o s p))) p (filter is_other fed)
   fed_after fed are = record {
-    each = λ f k.
-        let r = Contains-filter_parts is_other fed f k in
-        let was = are.each f r.0 in
-        let ne : f.process ≢ p =
-        λ is. both_ways (f.process == p) (not-true (f.process == p) r.1) (eq-eqb f.process p is) in
+    each = λ entry kept.
+        let parts = Contains-filter_parts is_other fed entry kept in
+        let was = are.each entry parts.0 in
+        let not_p : entry.process ≢ p =
+        λ is. both_ways (entry.process == p) (not-true (entry.process == p) parts.1) (eq-eqb entry.process p is) in
         record {
-          fed = still_fed g w o s h p n f.process was.fed ne;
-          ready = was.ready ∙ sym (same_ready g w o s h p n f.process was.fed.inputs);
+          fed = still_fed g well o s placing p is_next entry.process was.fed not_p;
+          ready = was.ready ∙ sym (same_ready g well o s placing p is_next entry.process was.fed.inputs);
         };
-    all = λ q f. elim (was_fed_or_waits g w o s h p n q f) [
+    all = λ q fed_now. elim (was_fed_or_waits g well o s placing p is_next q fed_now) [
       | inl was ↦
-          let x = Contains-map_parts (λ (f : FedProcess). f.process) fed q (are.all q was) in
-          let ne : (x.0).process ≢ p = λ is. fed_not_p g w o s h p n q f (sym is ∙ x.2) in
-          let kept = Contains-filter is_other fed x.0 (not_from_false ((x.0).process == p)
-          (false_from_ne_true ((x.0).process == p) (λ t. ne (eqb-true (x.0).process p t)))) x.1 in
-          inl (subst (Contains (processes_of (filter is_other fed))) x.2
-          (Contains-map (λ (f : FedProcess). f.process) (filter is_other fed) x.0 kept))
-      | inr x ↦
-          let e = x.0 in
-          let r = Contains-filter_parts (live g o) (inputs g q) e x.1 in
-          let m = inputs_parts g q e r.0 in
-          inr (e, subst (λ a. Contains (outputs g a) e) x.2 (outputs-Contains g e m.0), r.1, m.1)
+          let found = Contains-map_parts (λ (f : FedProcess). f.process) fed q (are.all q was) in
+          let not_p : (found.0).process ≢ p = λ is.
+          fed_not_p g well o s placing p is_next q fed_now (sym is ∙ found.2) in
+          let kept = Contains-filter is_other fed found.0 (not_from_false ((found.0).process == p)
+          (false_from_ne_true ((found.0).process == p) (λ is_p. not_p (eqb-true (found.0).process p is_p)))) found.1 in
+          inl (subst (Contains (processes_of (filter is_other fed))) found.2
+          (Contains-map (λ (f : FedProcess). f.process) (filter is_other fed) found.0 kept))
+      | inr waited ↦
+          let edge = waited.0 in
+          let parts = Contains-filter_parts (live g o) (inputs g q) edge waited.1 in
+          let target_is = inputs_parts g q edge parts.0 in
+          inr (
+            edge,
+            subst (λ a. Contains (outputs g a) edge) waited.2
+                (outputs-Contains g edge target_is.0),
+            parts.1,
+            target_is.1,
+          )
     ];
   }
 

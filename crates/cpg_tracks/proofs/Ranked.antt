@@ -15,7 +15,7 @@ use Rattle.cpg_tracks.proofs.TrackOrders.{ahead_by_key, ahead_by_number}
 
 -- the earlier numbers stay when one is added at the end
 pub rest_more : (rests : List ℕ) (p rest : ℕ) → p < length rests → get_or (rests ++ rest ∷ []) p 0 ≡ get_or rests p 0
-rest_more rests p rest l = grind (arith, common_steps)
+rest_more rests p rest inside = grind (arith, common_steps)
 
 -- one rest more makes the list one longer
 count_more : (rests : List ℕ) (rest : ℕ) → length (rests ++ rest ∷ []) ≡ length rests + 1
@@ -36,43 +36,61 @@ module _ (keys rests order : List ℕ) (are : AreRests keys rests) (ranked : Are
   ahead : (p q : ℕ) → p < length keys → q < length keys →
       (ltb (get_or rests q 0) (get_or rests p 0) || ((get_or rests p 0 == get_or rests q 0) && ltb p q)) ≡ true →
       is_ahead keys p q ≡ true
-  ahead p q l m e = elim (or_cases (ltb (get_or rests q 0) (get_or rests p 0))
-      ((get_or rests p 0 == get_or rests q 0) && ltb p q) e) [
+  ahead p q p_inside q_inside goes_first = elim (or_cases (ltb (get_or rests q 0) (get_or rests p 0))
+      ((get_or rests p 0 == get_or rests q 0) && ltb p q) goes_first) [
         | inl far ↦ ahead_by_key keys p q
-            (omega (arith, are.each p l, are.each q m, ltb-true (get_or rests q 0) (get_or rests p 0) far))
-        | inr r ↦
-            let s = and_parts (get_or rests p 0 == get_or rests q 0) (ltb p q) r in
+            (omega (
+              arith,
+              are.each p p_inside,
+              are.each q q_inside,
+              ltb-true (get_or rests q 0)
+                  (get_or rests p 0) far,
+            ))
+        | inr by_number ↦
+            let parts = and_parts (get_or rests p 0 == get_or rests q 0) (ltb p q) by_number in
             ahead_by_number keys p q
-            (omega (arith, are.each p l, are.each q m, eqb-true (get_or rests p 0) (get_or rests q 0) s.0))
-            (ltb-true p q s.1)
+            (omega (
+              arith,
+              are.each p p_inside,
+              are.each q q_inside,
+              eqb-true (get_or rests p 0)
+                  (get_or rests q 0) parts.0,
+            ))
+            (ltb-true p q parts.1)
       ]
 
   -- processes ranked by their rests rise by key
   pub rising_by_key : AllPairs (λ p q. is_ahead keys p q ≡ true) order
-  rising_by_key i j d h l =
+  rising_by_key i j d i_before_j j_inside =
       let within : (p : ℕ) → Contains order p → p < length keys = from_order (length keys) order all_ranked in
       ahead (get_or order i d) (get_or order j d) (within (get_or order i d) (Contains-get_or order i d (omega arith)))
-      (within (get_or order j d) (Contains-get_or order j d l))
-      (ranked.falling i j d h l)
+      (within (get_or order j d) (Contains-get_or order j d j_inside))
+      (ranked.falling i j d i_before_j j_inside)
 
 -- With one number more, the distances of all numbers so far are known.
 -- p is the new place, or one before it.
 pub rests_more : (keys rests next : List ℕ) (n rest : ℕ) → AreRestsUpTo keys n rests →
     rest + get_or keys n 0 ≡ 2 ^ 64 - 1 → next ≡ rests ++ rest ∷ [] →
     AreRestsUpTo keys (n + 1) next
-rests_more keys rests next n rest are is to = record {
-  count = omega (arith, ap length to, count_more rests rest, are.count);
-  each = λ p l. elim (cases_order p n) [
-    | inl e ↦ omega (
+rests_more keys rests next n rest are is is_next = record {
+  count = omega (arith, ap length is_next, count_more rests rest, are.count);
+  each = λ p below. elim (cases_order p n) [
+    | inl same ↦ omega (
       arith,
-      ap (λ xs. get_or xs p 0) to,
-      ap (λ k. get_or (rests ++ rest ∷ []) k 0) (e ∙ sym are.count),
-      ap (λ k. get_or keys k 0) e,
+      ap (λ xs. get_or xs p 0) is_next,
+      ap (λ k. get_or (rests ++ rest ∷ []) k 0) (same ∙ sym are.count),
+      ap (λ k. get_or keys k 0) same,
       rest_last rests rest,
       is,
     )
-    | inr (inl m) ↦
-        omega (arith, ap (λ xs. get_or xs p 0) to, rest_more rests p rest (omega (arith, are.count)), are.each p m)
-    | inr (inr m) ↦ absurd (omega (arith, l, m))
+    | inr (inl earlier) ↦
+        omega (
+          arith,
+          ap (λ xs. get_or xs p 0) is_next,
+          rest_more rests p rest
+              (omega (arith, are.count)),
+          are.each p earlier,
+        )
+    | inr (inr later) ↦ absurd (omega (arith, below, later))
   ];
 }

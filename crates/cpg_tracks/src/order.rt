@@ -39,9 +39,9 @@ fn by_key(alloc: Global, keys: &[u64]) -> Result<Vec<u32>, OutOfMemory>
     Ok(order)
 }
 
-/// Returns the track order of a graph: by key, and for equal keys by number. The key of a process is the greatest of its
-/// starts in the greedy schedules of all tracks and of one more than the key of each predecessor. It is `None` exactly if
-/// there are more than 256 tracks.
+/// Returns the track order of a graph: by key, and for equal keys by number. The key of a process is the greatest of
+/// its starts in the greedy schedules of all tracks and of one more than the key of each predecessor. Returns `None`
+/// exactly if there are more than 256 tracks.
 pub fn merged_order(alloc: Global, admitted: &Admitted) -> Result<Option<Order>, OutOfMemory>
     ensures order { IfOk result (λ found. IfSome found (HasTrackOrder admitted.now.graph)) }
     ensures topological { IfOk result (λ found. IfSome found (IsTopological admitted.now.graph)) }

@@ -16,7 +16,7 @@ use cpg_rules::{Admitted, GuardTrees};
 use std::alloc::Global;
 use std::marker::Model;
 
-/// The most tracks that are scheduled. A graph that is admitted may have more, 16,384.
+/// The most tracks that are scheduled. An admitted graph may have more: up to 16,384.
 const MOST_SCHEDULED_TRACKS: usize = 256;
 
 /// A track: an outcome in which the conditions of inactive processes are false, seen as its values and the list of the
@@ -80,7 +80,7 @@ fn push_ways(
     Ok(())
 }
 
-/// Returns the outcomes that come of these if the condition is chosen too: of each one or two, false before true.
+/// Returns the outcomes that come of these if the condition is chosen too: one or two of each, false before true.
 fn both_ways(
     alloc: Global,
     problem: &Problem,
@@ -206,7 +206,7 @@ pub fn track_outcomes(
 }
 
 /// Returns the tracks of a graph, in the order of outcomes: at the first condition in urgency order at which two differ,
-/// the earlier one is false. It is `None` exactly if there are more than 256 tracks.
+/// the earlier one is false. Returns `None` exactly if there are more than 256 tracks.
 pub fn tracks(alloc: Global, admitted: &Admitted) -> Result<Option<Vec<Track>>, OutOfMemory>
     ensures tracks { IfOk result (λ found. IfSome found (λ tracks. AreAllTracks admitted.now.graph tracks.items)) }
     ensures many { IfOk result (λ found. IfNone found (HasManyTracks admitted.now.graph)) }

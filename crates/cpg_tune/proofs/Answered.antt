@@ -17,9 +17,9 @@ pub answers_push : (answers : Graph → Judged → Type 0) (g : Graph) (count : 
     AreAnswers answers g (count + 1) (judged ++ next ∷ [])
 answers_push answers g count judged next are new = record {
   long = length_push judged next ∙ ap (λ n. n + 1) are.long;
-  each = λ faults l. elim (cases_Bool (nat_lt faults count)) [
+  each = λ faults below. elim (cases_Bool (nat_lt faults count)) [
     | inl before ↦ earlier faults (ltb-true faults count before)
-    | inr past ↦ later faults (let least = ltb-false faults count past in omega (arith, l, least))
+    | inr past ↦ later faults (let least = ltb-false faults count past in omega (arith, below, least))
   ];
 }
   where

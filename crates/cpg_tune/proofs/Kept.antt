@@ -47,10 +47,10 @@ record IsAlike (p q : Process) : Type 0 where
 -- a retuned process keeps its node and whether it is a join
 alike : (ps : List Process) (parts : List ℕ) (i : ℕ) (d : Process) → length parts ≡ length ps →
     IsAlike (get_or (in_parts_each ps parts) i d) (get_or ps i d)
-alike [] parts i d e = record { node = refl; join = refl }
-alike (p ∷ ps) [] i d e = absurd (omega (arith, e))
-alike (p ∷ ps) (n ∷ parts) zero d e = record { node = refl; join = refl }
-alike (p ∷ ps) (n ∷ parts) (suc i) d e = alike ps parts i d (omega (arith, e))
+alike [] parts i d one_each = record { node = refl; join = refl }
+alike (p ∷ ps) [] i d one_each = absurd (omega (arith, one_each))
+alike (p ∷ ps) (n ∷ parts) zero d one_each = record { node = refl; join = refl }
+alike (p ∷ ps) (n ∷ parts) (suc i) d one_each = alike ps parts i d (omega (arith, one_each))
 
 -- given: a number of parts for each process of a graph, and a fault number
 module _ (g : Graph) (parts : List ℕ) (faults : ℕ) (one_each : length parts ≡ process_count g) where
@@ -128,10 +128,10 @@ module _ (g : Graph) (parts : List ℕ) (faults : ℕ) (one_each : length parts 
 
   -- no join of the retuned graph has two live inputs either
   joins_same : HasSingleJoins g → HasSingleJoins h
-  joins_same single p values l join long =
+  joins_same single p values inside join long =
       subst (λ n. n ≤ 1)
       (sym (ap length (same_filter (live h values) (live g values) (inputs g p) (λ e among. live_same values e))))
-      (single p values (subst (λ n. p < n) processes_same l) (sym (join_same p) ∙ join) (long ∙ conditions_same))
+      (single p values (subst (λ n. p < n) processes_same inside) (sym (join_same p) ∙ join) (long ∙ conditions_same))
 
   -- ---- slots and sizes
 
@@ -167,16 +167,16 @@ module _ (g : Graph) (parts : List ℕ) (faults : ℕ) (one_each : length parts 
 
   -- all senders have slots still
   slots_same : HasSenderSlots g → HasSenderSlots h
-  slots_same senders x l sent =
+  slots_same senders x inside sent =
       subst (λ n. list_any (λ (s : Slot). s.node == n) g.slots ≡ true) (sym (home_same x))
-      (senders x (subst (λ n. x < n) items_same l)
+      (senders x (subst (λ n. x < n) items_same inside)
       (sym (ap (is_sent_item h) (item_same x) ∙ sent_same (item_at g x)) ∙ sent))
 
   -- all frames fit still
   sizes_same : AllFit g → AllFit h
-  sizes_same fit e l =
+  sizes_same fit e inside =
       ap₂ (λ m node. m && nat_lt (slot_bytes g node) (edge_at g e).size) (message_same e) (node_same (source g e))
-      ∙ fit e l
+      ∙ fit e inside
 
   -- a cycle of the retuned graph is one of the graph
   cycle_same : HasCycle h → HasCycle g
@@ -219,9 +219,9 @@ no_fault g h order guards is keeps (Cycle walk) shows =
 no_fault g h order guards is keeps TooManyTracks shows =
     absurd (let few = is.tracks in let same = keeps.tracks in let many = shows.2 in omega (arith, few, same, many))
 no_fault g h order guards is keeps (TwoAlternatives p s) shows =
-    let a = shows.2 in
+    let found = shows.2 in
     absurd (two_live (length (filter (live h s.values) (inputs h p)))
-    (keeps.joins is.joins p s.values a.within a.join a.least.lawful.values) a.least.holds)
+    (keeps.joins is.joins p s.values found.within found.join found.least.lawful.values) found.least.holds)
 no_fault g h order guards is keeps (NoSlot node) shows = absurd (no_lack h (keeps.slots is.slots) node shows.2.lacks)
 no_fault g h order guards is keeps (TooBig e) shows =
     absurd (both_ways _ (keeps.sizes is.sizes e shows.2.within) shows.2.above)

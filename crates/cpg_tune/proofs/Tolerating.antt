@@ -15,7 +15,7 @@ IsLastFrom from found rows last =
 -- By induction on the rows: a later accepted row takes the place of what was found.
 last_from : (from : ℕ) (found : Option ℕ) (rows : List Judged) →
     IsLastFrom from found rows (tolerated_from from found rows)
-last_from from found [] = inl (refl, λ k l. absurd (omega (arith, l)))
+last_from from found [] = inl (refl, λ k inside. absurd (omega (arith, inside)))
 last_from from found (row ∷ rows) =
     go (is_accepted row) refl (last_from (from + 1) (cond (is_accepted row) (Some from) found) rows)
   where
@@ -23,33 +23,33 @@ last_from from found (row ∷ rows) =
     none_later : ((k : ℕ) → k < length rows → is_accepted (row_at rows k) ≡ false) → (m : ℕ) → 0 < m →
         m < suc (length rows) →
         is_accepted (row_at (row ∷ rows) m) ≡ false
-    none_later h zero a b = absurd (omega (arith, a))
-    none_later h (suc m) a b = h m (omega (arith, b))
+    none_later none zero later inside = absurd (omega (arith, later))
+    none_later none (suc m) later inside = none m (omega (arith, inside))
 
     -- if no row behind a place is accepted, none is with one more row in front
     none_after : (k : ℕ) → ((m : ℕ) → k < m → m < length rows → is_accepted (row_at rows m) ≡ false) → (m : ℕ) →
         suc k < m → m < suc (length rows) →
         is_accepted (row_at (row ∷ rows) m) ≡ false
-    none_after k h zero a b = absurd (omega (arith, a))
-    none_after k h (suc m) a b = h m (omega (arith, a)) (omega (arith, b))
+    none_after k none zero k_before_m inside = absurd (omega (arith, k_before_m))
+    none_after k none (suc m) k_before_m inside = none m (omega (arith, k_before_m)) (omega (arith, inside))
 
-    -- if no row is accepted, none is with one more that isn't
+    -- if no row is accepted, none is with one more row in front that isn't accepted either
     none_here : is_accepted row ≡ false → ((k : ℕ) → k < length rows → is_accepted (row_at rows k) ≡ false) → (m : ℕ) →
         m < suc (length rows) →
         is_accepted (row_at (row ∷ rows) m) ≡ false
-    none_here e h zero b = e
-    none_here e h (suc m) b = h m (omega (arith, b))
+    none_here rejected none zero inside = rejected
+    none_here rejected none (suc m) inside = none m (omega (arith, inside))
 
     -- the last accepted row is one of the rest or, if there is none, this row if it is accepted
     go : (b : Bool) → is_accepted row ≡ b →
         IsLastFrom (from + 1) (cond b (Some from) found) rows
         (tolerated_from (from + 1) (cond b (Some from) found) rows)
         → IsLastFrom from found (row ∷ rows) (tolerated_from (from + 1) (cond b (Some from) found) rows)
-    go true e (inl (is, none)) = inr (0, omega arith, is ∙ ap Some (omega arith), e, none_later none)
-    go false e (inl (is, none)) = inl (is, none_here e none)
-    go true e (inr (k, within, is, accepted, none)) =
+    go true accepted (inl (is, none)) = inr (0, omega arith, is ∙ ap Some (omega arith), accepted, none_later none)
+    go false rejected (inl (is, none)) = inl (is, none_here rejected none)
+    go true row_accepted (inr (k, within, is, accepted, none)) =
         inr (suc k, omega (arith, within), is ∙ ap Some (omega arith), accepted, none_after k none)
-    go false e (inr (k, within, is, accepted, none)) =
+    go false rejected (inr (k, within, is, accepted, none)) =
         inr (suc k, omega (arith, within), is ∙ ap Some (omega arith), accepted, none_after k none)
 
 -- the faults that are tolerated are the greatest number whose row is accepted

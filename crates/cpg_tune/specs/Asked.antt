@@ -7,7 +7,8 @@ use Rattle.cpg_tune.specs.declared.judge.Judged.{Judged}
 use Rattle.cpg_tune.specs.Best.{best_parts}
 use Rattle.cpg_tune.specs.Retuned.{retuned}
 
--- the graph of a row: with its best parts, for its own fault number, but with another fault number
+-- the graph of a row: a graph with `faults` as its fault number, and with the parts that are best for its own fault
+-- number
 abbrev pub row_graph : Graph → ℕ → Graph
 row_graph g faults = retuned g (best_parts g) faults
 

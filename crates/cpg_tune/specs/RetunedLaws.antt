@@ -16,7 +16,7 @@ use Rattle.cpg_tune.specs.Asked.{row_graph}
 
 -- graph h keeps each rule of admission that graph g keeps
 pub record KeepsRules (g h : Graph) : Type 0 where
-  -- if the second graph has a cycle, the first has one
+  -- if h has a cycle, g has one
   pub cycle : HasCycle h → HasCycle g
   -- both have equally many tracks
   pub tracks : track_count h ≡ track_count g

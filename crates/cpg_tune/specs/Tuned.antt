@@ -39,30 +39,31 @@ tolerated_from faults found (row ∷ rows) =
 abbrev pub tolerated : List Judged → Option ℕ
 tolerated rows = tolerated_from 0 None rows
 
--- one answer for each fault number from 0 on: that for the graph with this number in place of its own
+-- one answer for each of `count` fault numbers, from 0 on: that for the graph with this number in place of its own
 pub record AreAnswers (answers : Graph → Judged → Type 0) (g : Graph) (count : ℕ) (judged : List Judged) : Type 0 where
-  -- there are as many as asked for
+  -- there are `count` answers
   pub long : length judged ≡ count
   -- each is an answer for the graph with its own fault number
   pub each : (faults : ℕ) → faults < count → answers (with_fault_number g faults) (row_at judged faults)
 
--- one row for each fault number from 0 on: the judge's answer for the graph with its best parts and that number
+-- one row for each of `count` fault numbers, from 0 on: the judge's answer for the graph with its best parts and that
+-- number
 pub record AreRows (answers : Graph → Judged → Type 0) (g : Graph) (count : ℕ) (rows : List Judged) : Type 0 where
-  -- there are as many as asked for
+  -- there are `count` rows
   pub long : length rows ≡ count
   -- each is an answer for the graph of its row
   pub each : (faults : ℕ) → faults < count → answers (row_graph g faults) (row_at rows faults)
 
 -- the tuning of a graph by a judge who may give these answers
 pub record IsTuning (answers : Graph → Judged → Type 0) (g : Graph) (t : Tuning) : Type 0 where
-  -- the parts are the best
+  -- the parts are the best ones of the graph's processes
   pub parts : t.parts ≡ best_parts g
-  -- a row for each number from 0 to MOST_FAULTS
+  -- there is a row for each fault number from 0 to MOST_FAULTS
   pub rows : AreRows answers g (MOST_FAULTS + 1) t.rows
   -- the greatest fault number whose row is accepted
   pub tolerates : t.tolerates ≡ tolerated t.rows
 
--- this row is accepted, and none after it is; or no row is accepted
+-- the row at this place is accepted, and no row after it is; or, for None, no row is accepted at all
 abbrev pub IsGreatestAccepted : List Judged → Option ℕ → Type 0
 IsGreatestAccepted rows None = (faults : ℕ) → faults < length rows → is_accepted (row_at rows faults) ≡ false
 IsGreatestAccepted rows (Some found) = (found < length rows) × (is_accepted (row_at rows found) ≡ true)

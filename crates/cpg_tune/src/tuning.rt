@@ -87,8 +87,8 @@ fn rows_of<J: Judge>(
     Ok(rows)
 }
 
-/// Tunes a graph: returns the best parts of each process for the graph's own fault number, and what the judge says of the
-/// graph with these parts for each fault number from 0 to 8.
+/// Tunes a graph: returns the best number of parts of each process for the graph's own fault number, and what the judge
+/// says of the graph with these parts for each fault number from 0 to 8.
 pub fn tune<J: Judge>(alloc: Global, problem: &Problem, judge: &mut J) -> Result<Tuned, OutOfMemory>
     // the judge may be asked about the graph of each row
     requires { MayAskRows (J.may_ask judge.old) problem.now }

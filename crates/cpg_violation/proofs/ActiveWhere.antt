@@ -55,22 +55,24 @@ moved false m n x = refl
 
 -- if the first two of four tests, `h` and `m`, don't both pass, not all four do
 never : (h m n x : Bool) → (h && m) ≡ false → (h && ((m && n) && x)) ≡ false
-never true m n x e = ap (λ b. (b && n) && x) e
-never false m n x e = refl
+never true m n x fails = ap (λ b. (b && n) && x) fails
+never false m n x fails = refl
 
--- the scenarios that `cube` matches and no cube of `by` does, and in which a process is active (`wanted`) or isn't
+-- given: the scenarios that are asked about: `cube` matches them and no cube of `by` does, and a process is active
+-- there (`wanted`) or isn't
 module _ (g : Graph) (order : List ℕ) (by : List (List Literal)) (wanted : Bool) (cube : List Literal) where
   -- at a leaf `a` that is what is wanted, the least scenario `o` that is left of the cube is the answer
   pub at_leaf : (a : Activation) (o : Option Scenario) → same_bool wanted (is_active a) ≡ true →
       IsFirst g order (is_left by cube) o →
       IsFirst g order (λ s. is_left by cube s && comes_to (Leaf a) wanted s) o
-  at_leaf a o e f = first_same g order (is_left by cube) (λ s. is_left by cube s && comes_to (Leaf a) wanted s) o
-      (λ s _. with_true (is_left by cube s) (same_bool wanted (is_active a)) e) f
+  at_leaf a o is_wanted is_first =
+      first_same g order (is_left by cube) (λ s. is_left by cube s && comes_to (Leaf a) wanted s) o
+      (λ s _. with_true (is_left by cube s) (same_bool wanted (is_active a)) is_wanted) is_first
 
   -- at a leaf that isn't, there is none
   pub at_other_leaf : (a : Activation) → same_bool wanted (is_active a) ≡ false →
       IsFirst g order (λ s. is_left by cube s && comes_to (Leaf a) wanted s) None
-  at_other_leaf a e = λ s _. and_right (is_left by cube s) (same_bool wanted (is_active a)) e
+  at_other_leaf a other = λ s _. and_right (is_left by cube s) (same_bool wanted (is_active a)) other
 
   -- at a test of condition `c`, the earlier of the answers `a`, with the condition false, and `b`, with it true, is the
   -- answer
@@ -79,7 +81,7 @@ module _ (g : Graph) (order : List ℕ) (by : List (List Literal)) (wanted : Boo
       → IsFirst g order (λ s. holds s (value_literal c true) && (is_left by cube s && comes_to on wanted s)) b
       → IsFirst g order (λ s. is_left by cube s && comes_to (Test c off on) wanted s) (earlier g order a b)
   -- by `first_or` it is the answer for one or the other; and in each scenario only the side for the value there counts
-  at_test c off on a b f h = first_same g order
+  at_test c off on a b off_first on_first = first_same g order
       (λ s. (holds s (value_literal c false) && (is_left by cube s && comes_to off wanted s))
       || (holds s (value_literal c true) && (is_left by cube s && comes_to on wanted s)))
       (λ s. is_left by cube s && comes_to (Test c off on) wanted s) (earlier g order a b)
@@ -88,19 +90,19 @@ module _ (g : Graph) (order : List ℕ) (by : List (List Literal)) (wanted : Boo
       ∙ ap (λ t. (same_bool false (get_or s.values c false) && (is_left by cube s && comes_to off wanted s))
       || (t && (is_left by cube s && comes_to on wanted s))) (value_holds s c true)
       ∙ of_arms (get_or s.values c false) (is_left by cube s) wanted (outcome_at off s.values) (outcome_at on s.values))
-      (first_or g order _ _ a b f h)
+      (first_or g order _ _ a b off_first on_first)
 
-  -- a literal that has to hold as well, and the guard that is asked there
+  -- given: a literal that has to hold as well, and the guard that is asked there
   module _ (l : Literal) (tree : Guard) where
     -- the answer `o` for the part of the cube that literal `l` leaves is that for the cube where the literal holds
     pub where_holds : (part : List Literal) (o : Option Scenario) →
         ((s : Scenario) → matches part s ≡ (holds s l && matches cube s)) →
         IsFirst g order (λ s. is_left by part s && comes_to tree wanted s) o
         → IsFirst g order (λ s. holds s l && (is_left by cube s && comes_to tree wanted s)) o
-    where_holds part o both f = first_same g order (λ s. is_left by part s && comes_to tree wanted s)
+    where_holds part o both is_first = first_same g order (λ s. is_left by part s && comes_to tree wanted s)
         (λ s. holds s l && (is_left by cube s && comes_to tree wanted s)) o
         (λ s _. ap (λ m. (m && not (list_any (λ b. matches b s) by)) && comes_to tree wanted s) (both s) ∙
-        moved (holds s l) (matches cube s) (not (list_any (λ b. matches b s) by)) (comes_to tree wanted s)) f
+        moved (holds s l) (matches cube s) (not (list_any (λ b. matches b s) by)) (comes_to tree wanted s)) is_first
 
     -- if the literal holds nowhere that the cube matches, there is none
     pub where_never : ((s : Scenario) → (holds s l && matches cube s) ≡ false) →

@@ -28,10 +28,10 @@ any_filter test keep (x ∷ xs) = go (keep x) (any_filter test keep xs)
     go : (b : Bool) → list_any test (filter keep xs) ≡ list_any (λ x. keep x && test x) xs →
         list_any test (cond b (x ∷ filter keep xs) (filter keep xs))
         ≡ ((b && test x) || list_any (λ x. keep x && test x) xs)
-    go true ih = ap (λ r. test x || r) ih
-    go false ih = ih
+    go true rest_is = ap (λ r. test x || r) rest_is
+    go false rest_is = rest_is
 
--- a fact that has to hold in a scenario, and a test of an element of a list there
+-- given: a fact that has to hold in a scenario, and a test of an element of a list there
 module _ {X : Type 0} (g : Graph) (order : List ℕ) (fact : Scenario → Bool) (test : Scenario → X → Bool)
     (xs : List X) where
   -- the earlier of the answers for the first `i` elements and for the next one is the answer for one element more
@@ -39,12 +39,13 @@ module _ {X : Type 0} (g : Graph) (order : List ℕ) (fact : Scenario → Bool) 
       IsFirst g order (λ s. fact s && list_any (test s) (take i xs)) a
       → IsFirst g order (λ s. fact s && test s (get_or xs i d)) b →
       IsFirst g order (λ s. fact s && list_any (test s) (take (i + 1) xs)) (earlier g order a b)
-  first_any_more i d h a b f k = first_same g order
+  first_any_more i d inside a b first_before first_next = first_same g order
       (λ s. (fact s && list_any (test s) (take i xs)) || (fact s && test s (get_or xs i d)))
       (λ s. fact s && list_any (test s) (take (i + 1) xs)) (earlier g order a b)
       (λ s _. both_or (fact s) (list_any (test s) (take i xs)) (test s (get_or xs i d))
-      ∙ ap (λ m. fact s && m) (sym (list_any_more (test s) xs i d h)))
-      (first_or g order (λ s. fact s && list_any (test s) (take i xs)) (λ s. fact s && test s (get_or xs i d)) a b f k)
+      ∙ ap (λ m. fact s && m) (sym (list_any_more (test s) xs i d inside)))
+      (first_or g order (λ s. fact s && list_any (test s) (take i xs))
+      (λ s. fact s && test s (get_or xs i d)) a b first_before first_next)
 
 -- the earlier of the answers `a` for test `p` and `b` for test `q` is the answer for either test, with a fact that has
 -- to hold as well
@@ -52,27 +53,30 @@ pub first_either : (g : Graph) (order : List ℕ) (fact p q : Scenario → Bool)
     IsFirst g order (λ s. fact s && p s) a →
     IsFirst g order (λ s. fact s && q s) b
     → IsFirst g order (λ s. fact s && (p s || q s)) (earlier g order a b)
-first_either g order fact p q a b f h =
+first_either g order fact p q a b p_first q_first =
     first_same g order (λ s. (fact s && p s) || (fact s && q s)) (λ s. fact s && (p s || q s)) (earlier g order a b)
-    (λ s _. both_or (fact s) (p s) (q s)) (first_or g order (λ s. fact s && p s) (λ s. fact s && q s) a b f h)
+    (λ s _. both_or (fact s) (p s) (q s))
+    (first_or g order (λ s. fact s && p s) (λ s. fact s && q s) a b p_first q_first)
 
--- a test that says whether a column that matches breaks a rule, and a place of a row
+-- given: a test that says whether a column that matches breaks a rule, and a place of a row
 module _ (test : Scenario → Column → Bool) (columns : List Column) (i : ℕ) where
   -- if there is a column at the place, `is_broken` says of the place that this column matches and breaks the rule
   pub broken_at : (d : Column) (s : Scenario) → i < length columns →
       (matches (get_or columns i d).cube s && test s (get_or columns i d)) ≡ is_broken test columns i s
-  broken_at d s h = sym (or-false (matches (get_or columns i d).cube s && test s (get_or columns i d)))
-      ∙ sym (ap (λ l. list_any (λ (c : Column). matches c.cube s && test s c) (take 1 l)) (drop_more columns i d h))
+  broken_at d s inside = sym (or-false (matches (get_or columns i d).cube s && test s (get_or columns i d)))
+      ∙ sym (ap (λ rest. list_any (λ (c : Column). matches c.cube s && test s c) (take 1 rest))
+      (drop_more columns i d inside))
 
   -- past the last place, `is_broken` is false
   pub broken_past : (s : Scenario) → length columns ≤ i → is_broken test columns i s ≡ false
-  broken_past s h = ap (λ l. list_any (λ (c : Column). matches c.cube s && test s c) (take 1 l)) (drop_all i columns h)
+  broken_past s past = ap (λ rest. list_any (λ (c : Column). matches c.cube s && test s c) (take 1 rest))
+      (drop_all i columns past)
 
   -- the least scenario in which the column at the place breaks the rule is that in which `is_broken` says so of the
   -- place
   pub broken_place : (g : Graph) (order : List ℕ) (d : Column) → i < length columns → (o : Option Scenario)
       → IsFirst g order (λ s. matches (get_or columns i d).cube s && test s (get_or columns i d)) o →
       IsFirst g order (is_broken test columns i) o
-  broken_place g order d h o f =
+  broken_place g order d inside o is_first =
       first_same g order (λ s. matches (get_or columns i d).cube s && test s (get_or columns i d))
-      (is_broken test columns i) o (λ s _. broken_at d s h) f
+      (is_broken test columns i) o (λ s _. broken_at d s inside) is_first

@@ -11,21 +11,22 @@ use Rattle.cpg_cube.proofs.Boxes.{number_within, top_of_count}
 -- an execution of process `p` with `n` faults, at least `m`, doesn't last shorter than with `m`: each fault adds the
 -- same time
 pub duration_grows : (g : Graph) (p m n : ℕ) → m ≤ n → duration g p m ≤ duration g p n
-duration_grows g p m n h =
+duration_grows g p m n more_faults =
     let more : m
     * ((process_at g p).mu + div_ceil (process_at g p).wcet (process_at g p).parts + (process_at g p).alpha) ≤ n *
     ((process_at g p).mu + div_ceil (process_at g p).wcet (process_at g p).parts + (process_at g p).alpha) =
     mul-le-mul_right
-    ((process_at g p).mu + div_ceil (process_at g p).wcet (process_at g p).parts + (process_at g p).alpha) h in
+    ((process_at g p).mu + div_ceil (process_at g p).wcet (process_at g p).parts + (process_at g p).alpha)
+    more_faults in
     omega arith
 
 -- in a scenario `s` of a graph, process `p` has at most as many faults as the graph allows
 pub fault_within : (g : Graph) → process_count g ≤ 128 → (p : ℕ) → p < process_count g → (s : Scenario) →
     IsScenario g s →
     fault_of s p ≤ g.faults
-fault_within g few p l s law = omega (
+fault_within g few p is_process s lawful = omega (
   arith,
-  number_within g few s law p (inl l),
-  number_of-fault s p (omega (arith, few, l)),
-  top_of_count g.faults p (omega (arith, few, l)),
+  number_within g few s lawful p (inl is_process),
+  number_of-fault s p (omega (arith, few, is_process)),
+  top_of_count g.faults p (omega (arith, few, is_process)),
 )

@@ -22,41 +22,43 @@ use Rattle.cpg_violation.specs.Sources.{is_active_by}
 use Rattle.cpg_violation.specs.declared.sources.ItemSource.{ItemSource}
 use Rattle.cpg_violation.proofs.ActiveWhere.{value_holds}
 
--- a test of condition `c`, with its sides for false and true, in one scenario
+-- given: a test of condition `c`, with its sides for false and true, in one scenario
 module _ (wanted : Bool) (c : ℕ) (off on : Guard) (s : Scenario) where
   -- if the side for the condition's value doesn't come to what is wanted, the test doesn't
   arms : (v : Bool) → get_or s.values c false ≡ v → (v ≡ false → comes_to off wanted s ≡ false) →
       (v ≡ true → comes_to on wanted s ≡ false) →
       comes_to (Test c off on) wanted s ≡ false
-  arms true e low high = rw e (high refl)
-  arms false e low high = rw e (low refl)
+  arms true value_is low high = rw value_is (high refl)
+  arms false value_is low high = rw value_is (low refl)
 
   -- if the condition is true and the side for true doesn't come to what is wanted, the test doesn't
   pub only_on : holds s (value_literal c true) ≡ true → comes_to on wanted s ≡ false →
       comes_to (Test c off on) wanted s ≡ false
-  only_on h high = arms (get_or s.values c false) refl (λ e.
-      absurd (both_ways (holds s (value_literal c true)) (value_holds s c true ∙ ap (same_bool true) e) h)) (λ e. high)
+  only_on held high = arms (get_or s.values c false) refl (λ value_is.
+      absurd (both_ways (holds s (value_literal c true)) (value_holds s c true ∙ ap (same_bool true) value_is) held))
+      (λ value_is. high)
 
-  -- if the condition is false and the side for false doesn't, the test doesn't
+  -- if the condition is false and the side for false doesn't come to what is wanted, the test doesn't
   pub only_off : holds s (value_literal c false) ≡ true → comes_to off wanted s ≡ false →
       comes_to (Test c off on) wanted s ≡ false
-  only_off h low = arms (get_or s.values c false) refl (λ e. low)
-      (λ e. absurd (both_ways (holds s (value_literal c false)) (value_holds s c false ∙ ap (same_bool false) e) h))
+  only_off held low = arms (get_or s.values c false) refl (λ value_is. low)
+      (λ value_is. absurd (both_ways (holds s (value_literal c false))
+      (value_holds s c false ∙ ap (same_bool false) value_is) held))
 
-  -- if neither side does, the test doesn't
+  -- if neither side comes to what is wanted, the test doesn't
   pub both_arms : comes_to off wanted s ≡ false → comes_to on wanted s ≡ false →
       comes_to (Test c off on) wanted s ≡ false
-  both_arms low high = arms (get_or s.values c false) refl (λ e. low) (λ e. high)
+  both_arms low high = arms (get_or s.values c false) refl (λ value_is. low) (λ value_is. high)
 
--- given a guard that is a test of condition `c`, with the sides `off` and `on`, and a space
+-- given: a guard that is a test of condition `c`, with the sides `off` and `on`, and a space
 module _ (wanted : Bool) (tree : Guard) (c : ℕ) (off on : Guard) (is : tree ≡ Test c off on) (space : Space) where
   -- if condition `c` is true in the whole space, what `b` answers of the side for true (`on`) is true of the guard
   pub step_on : (b : Bool) → OnTrue b ((s : Scenario) → IsInSpace space s → comes_to on wanted s ≡ false) →
       ((s : Scenario) → IsInSpace space s → holds s (value_literal c true) ≡ true)
       → OnTrue b ((s : Scenario) → IsInSpace space s → comes_to tree wanted s ≡ false)
   step_on b high some =
-      of_true b high (λ h. subst (λ t. (s : Scenario) → IsInSpace space s → comes_to t wanted s ≡ false) (sym is)
-      (λ s lies. only_on wanted c off on s (some s lies) (h s lies)))
+      of_true b high (λ told. subst (λ t. (s : Scenario) → IsInSpace space s → comes_to t wanted s ≡ false) (sym is)
+      (λ s lies. only_on wanted c off on s (some s lies) (told s lies)))
 
   -- if condition `c` is false in the whole space, and the side for false (`off`) never comes to what is wanted there,
   -- neither does the guard
@@ -72,15 +74,15 @@ module _ (wanted : Bool) (tree : Guard) (c : ℕ) (off on : Guard) (is : tree �
       OnTrue b ((s : Scenario) → IsInSpace space s → comes_to on wanted s ≡ false)
       → OnTrue b ((s : Scenario) → IsInSpace space s → comes_to tree wanted s ≡ false)
   step_both b low high =
-      of_true b high (λ h. subst (λ t. (s : Scenario) → IsInSpace space s → comes_to t wanted s ≡ false) (sym is)
-      (λ s lies. both_arms wanted c off on s (low s lies) (h s lies)))
+      of_true b high (λ told. subst (λ t. (s : Scenario) → IsInSpace space s → comes_to t wanted s ≡ false) (sym is)
+      (λ s lies. both_arms wanted c off on s (low s lies) (told s lies)))
 
--- a process of an admitted graph, in a scenario
+-- given: a process of an admitted graph, in a scenario
 module _ {g : Graph} {order : List ℕ} {guards : Guards} (admitted : IsAdmitted g order guards) (p : ℕ)
-    (l : p < process_count g) (s : Scenario) (law : IsScenario g s) where
+    (is_process : p < process_count g) (s : Scenario) (lawful : IsScenario g s) where
   -- the guard of the process says whether it is active
   by_tree : is_active (outcome_at (tree_of guards p) s.values) ≡ active g s.values p
-  by_tree = ap is_active ((admitted.guards.trees p l).is s.values law.values)
+  by_tree = ap is_active ((admitted.guards.trees p is_process).is s.values lawful.values)
 
   -- a value equals `true` just if it is true
   same_true : (b : Bool) → same_bool true b ≡ b
@@ -89,18 +91,18 @@ module _ {g : Graph} {order : List ℕ} {guards : Guards} (admitted : IsAdmitted
 
   -- a value that doesn't equal `false` is true
   same_false : (b : Bool) → same_bool false b ≡ false → b ≡ true
-  same_false true e = refl
-  same_false false e = sym e
+  same_false true differs = refl
+  same_false false differs = sym differs
 
   -- if the guard doesn't say active, the process is inactive
   pub idle_of : comes_to (tree_of guards p) true s ≡ false → active g s.values p ≡ false
-  idle_of e = sym by_tree ∙ sym (same_true (is_active (outcome_at (tree_of guards p) s.values))) ∙ e
+  idle_of not_active = sym by_tree ∙ sym (same_true (is_active (outcome_at (tree_of guards p) s.values))) ∙ not_active
 
   -- if the guard doesn't say inactive, the process is active
   pub running_of : comes_to (tree_of guards p) false s ≡ false → active g s.values p ≡ true
-  running_of e = sym by_tree ∙ same_false (is_active (outcome_at (tree_of guards p) s.values)) e
+  running_of not_inactive = sym by_tree ∙ same_false (is_active (outcome_at (tree_of guards p) s.values)) not_inactive
 
--- an edge that asks for a value of condition `c`, which is that of its source `p`
+-- given: an edge that asks for a value of condition `c`, which is that of its source `p`
 module _ (g : Graph) (s : Scenario) (p c : ℕ) (when : Option Bool) (value : Bool) (is : condition_of g p ≡ Some c)
     (asks : when ≡ Some value) where
   -- the edge takes the source's value exactly if the condition has the value that it asks for
@@ -110,32 +112,32 @@ module _ (g : Graph) (s : Scenario) (p c : ℕ) (when : Option Bool) (value : Bo
 
   -- if the condition has the value that the edge asks for, the edge takes it
   pub taken_of : holds s (value_literal c value) ≡ true → takes when (value_of g s.values p) ≡ true
-  taken_of h = taken_as ∙ sym (value_holds s c value) ∙ h
+  taken_of held = taken_as ∙ sym (value_holds s c value) ∙ held
 
   -- what equals the other value than `v` doesn't equal `v`
   other : (v b : Bool) → same_bool (not v) b ≡ true → same_bool v b ≡ false
-  other true true e = sym e
-  other true false e = refl
-  other false true e = refl
-  other false false e = sym e
+  other true true same = sym same
+  other true false same = refl
+  other false true same = refl
+  other false false same = sym same
 
   -- if the condition has the other value, the edge doesn't take it
   pub refused_of : holds s (value_literal c (not value)) ≡ true → takes when (value_of g s.values p) ≡ false
-  refused_of h = taken_as ∙ other value (get_or s.values c false) (sym (value_holds s c (not value)) ∙ h)
+  refused_of held = taken_as ∙ other value (get_or s.values c false) (sym (value_holds s c (not value)) ∙ held)
 
 -- if the first of two tests, `a`, fails, not both pass: an edge isn't live if its source is idle
 pub idle_source : (a t : Bool) → a ≡ false → (a && t) ≡ false
-idle_source true t e = absurd (both_ways true e refl)
-idle_source false t e = refl
+idle_source true t fails = absurd (both_ways true fails refl)
+idle_source false t fails = refl
 
 -- if the second of two tests, `t`, fails, not both pass: an edge isn't live if its source has the other value
 pub other_value : (a t : Bool) → t ≡ false → (a && t) ≡ false
-other_value true t e = e
-other_value false t e = refl
+other_value true t fails = fails
+other_value false t fails = refl
 
 -- if each of two tests, `a` and `t`, passes, both do: then an edge is live
 pub both_there : (a t : Bool) → a ≡ true → t ≡ true → (a && t) ≡ true
-both_there a t e f = rw (e, f) refl
+both_there a t a_passes t_passes = rw (a_passes, t_passes) refl
 
 -- if item `x` is active exactly when the source that was found says so, it is when a source that is the same says so
 pub as_source : (g : Graph) (x : ℕ) (found source : ItemSource) →

@@ -16,24 +16,24 @@ use Rattle.std.specs.Prelude.{IfSome, List, None, Some}
 
 -- a head `h` that is a graph's is the graph's own head, but that it may have no extras
 same_but_extras : (g : Graph) (h : Head) → IsHeadFor g h → record h { extras = extras_of g } ≡ head_of g
-same_but_extras g h k = rw (k.faults, k.nodes, k.processes.processes, k.edges) refl
+same_but_extras g h is_for = rw (is_for.faults, is_for.nodes, is_for.processes.processes, is_for.edges) refl
 
 -- tables that are lawful under head `h`, which is the graph's, are lawful under the graph's own head
 pub tables_of_graph : (g : Graph) (h : Head) (tables : List NodeTable) → IsHeadFor g h → AreTablesOf h tables →
     AreTablesOf (head_of g) tables
 -- no field of lawful tables depends on the extras, so they can be put together again for a head with the graph's extras
-tables_of_graph g h tables k are = subst (λ (head : Head). AreTablesOf head tables) (same_but_extras g h k)
+tables_of_graph g h tables is_for are = subst (λ (head : Head). AreTablesOf head tables) (same_but_extras g h is_for)
     (record {
       count = are.count;
-      each = λ node l. let t = are.each node l in
+      each = λ node inside. let table = are.each node inside in
           record {
-            faults = t.faults;
-            first_broadcast = t.first_broadcast;
-            own = t.own;
-            starts = t.starts;
-            sends = t.sends;
-            hears = t.hears;
-            lawful = t.lawful;
+            faults = table.faults;
+            first_broadcast = table.first_broadcast;
+            own = table.own;
+            starts = table.starts;
+            sends = table.sends;
+            hears = table.hears;
+            lawful = table.lawful;
           };
       few = are.few;
     })
@@ -41,8 +41,8 @@ tables_of_graph g h tables k are = subst (λ (head : Head). AreTablesOf head tab
 -- a node hears the same items by head `h` as in the graph
 pub hears_of_graph : (g : Graph) (h : Head) → IsHeadFor g h → IsWithinLimits g → (node : ℕ) → node < length g.nodes →
     hears_of h node ≡ heard_by g node
-hears_of_graph g h k within node l =
-    ap (λ (head : Head). hears_of head node) (same_but_extras g h k) ∙ hears_are g within node l
+hears_of_graph g h is_for within node inside =
+    ap (λ (head : Head). hears_of head node) (same_but_extras g h is_for) ∙ hears_are g within node inside
 
 -- the extras of a graph's own head, if it has them, are those of the processes; plain processes need none
 own_extras : (ps : List Process) (plain : Bool) →

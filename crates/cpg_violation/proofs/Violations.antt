@@ -22,7 +22,7 @@ use Rattle.cpg_table.proofs.GraphTables.{has_shape}
 use Rattle.cpg_table.proofs.Rows.{variables_exist}
 use Rattle.cpg_violation.specs.Violation.{IsFirstColumn, IsFirstViolation, IsFirstOf}
 
--- an admitted graph
+-- given: an admitted graph
 module _ {g : Graph} {order : List ℕ} {guards : Guards} (admitted : IsAdmitted g order guards) where
   -- its order has as many places as the graph has processes
   pub long_order : length order ≡ process_count g
@@ -32,45 +32,46 @@ module _ {g : Graph} {order : List ℕ} {guards : Guards} (admitted : IsAdmitted
   pub columns_known : (tables : List NodeTable) → AreTablesOf (head_of g) tables → (x : ℕ) →
       All (λ (c : Column). IsKnown g c.cube) (columns_of tables x)
   columns_known tables are x = All-weaker (Contains (columns_of tables x)) (λ (c : Column). IsKnown g c.cube)
-      (λ c k. All-weaker (Contains c.cube) (λ (l : Literal). IsVariable g l.variable)
-      (λ l m. variables_exist admitted.well_formed (has_shape g admitted.limits tables are) x c l k m) c.cube
+      (λ c c_in. All-weaker (Contains c.cube) (λ (l : Literal). IsVariable g l.variable)
+      (λ l l_in. variables_exist admitted.well_formed (has_shape g admitted.limits tables are) x c l c_in l_in) c.cube
       (All-contains_itself c.cube))
       (columns_of tables x) (All-contains_itself (columns_of tables x))
 
--- a rule that is never broken for lack of a column, and an item
+-- given: a rule that is never broken for lack of a column, and an item
 module _ (rule : Rule) (g : Graph) (tables : List NodeTable) (x : ℕ)
     (never : (y : ℕ) (s : Scenario) → breaks rule g tables s y None ≡ false) where
-  -- if it is broken at no item before `x`, and at no column of `x`, it is broken at none before the item after `x`
+  -- if the rule is broken at no item before `x`, and at no column of `x`, it is broken at none before the item after
+  -- `x`
   pub none_more :
       ((y : ℕ) (column : Option ℕ) (s : Scenario) → y < x → IsScenario g s → breaks rule g tables s y column ≡ false)
       → ((i : ℕ) (s : Scenario) → IsScenario g s → breaks rule g tables s x (Some i) ≡ false)
       → (y : ℕ) (column : Option ℕ) (s : Scenario) → y < x + 1 → IsScenario g s →
       breaks rule g tables s y column ≡ false
-  none_more before here y None s l i = never y s
-  none_more before here y (Some c) s l i = elim (cases_lt y x) [
-    | inl lt ↦ before y (Some c) s lt i
+  none_more before here y None s below lawful = never y s
+  none_more before here y (Some c) s below lawful = elim (cases_lt y x) [
+    | inl lt ↦ before y (Some c) s lt lawful
     | inr ge ↦ let same : x ≡ y = omega arith in
-        subst (λ z. breaks rule g tables s z (Some c) ≡ false) same (here c s i)
+        subst (λ z. breaks rule g tables s z (Some c) ≡ false) same (here c s lawful)
   ]
 
-  -- if it is broken at no item before `x`, the first column of `x` that breaks it is the first violation
+  -- if the rule is broken at no item before `x`, the first column of `x` that breaks it is the first violation
   pub first_violation : (number : ℕ) → number ≡ number_of_rule rule → (order : List ℕ) (j : ℕ) (s : Scenario) →
       x < item_count g
       → ((y : ℕ) (column : Option ℕ) (s : Scenario) → y < x → IsScenario g s → breaks rule g tables s y column ≡ false)
       → IsFirstColumn g order (λ i t. breaks rule g tables t x (Some i)) (j, s)
       → IsFirstViolation g order tables rule (record { rule = number; item = x; column = Some j; scenario = s })
-  first_violation number is order j s l before first = record {
+  first_violation number is order j s is_item before first = record {
     number = is;
-    item = l;
+    item = is_item;
     least = first.least;
     items = before;
-    columns = λ i t h k. first.columns i t h k;
+    columns = λ i t less t_lawful. first.columns i t less t_lawful;
   }
 
 -- the first violation of several rules is the first of one of them; by induction on the rules
 pub first_broken : (g : Graph) (order : List ℕ) (tables : List NodeTable) (f : Fault) (rules : List Rule) →
     IsFirstOf g order tables rules f →
     (rule : Rule) × IsFirstViolation g order tables rule f
-first_broken g order tables f [] k = absurd k
-first_broken g order tables f (rule ∷ rules) (inl k) = (rule, k)
-first_broken g order tables f (rule ∷ rules) (inr k) = first_broken g order tables f rules k.1
+first_broken g order tables f [] is_first = absurd is_first
+first_broken g order tables f (rule ∷ rules) (inl is_first) = (rule, is_first)
+first_broken g order tables f (rule ∷ rules) (inr is_first) = first_broken g order tables f rules is_first.1

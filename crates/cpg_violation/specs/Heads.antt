@@ -30,25 +30,29 @@ HasOtherFaults g h = h.faults ≢ g.faults
 
 -- the first difference is in the names of the nodes: the number of faults is the same
 pub record HasOtherNodes (g : Graph) (h : Head) : Type 0 where
-  -- the number of faults is the same, the names aren't
+  -- the number of faults is the graph's
   pub faults : h.faults ≡ g.faults
+  -- the names of the nodes aren't the graph's
   pub nodes : h.nodes ≢ g.nodes
 
 -- the first difference is in the processes: what comes before them is the same
 pub record HasOtherProcesses (g : Graph) (h : Head) : Type 0 where
-  -- the number of faults and the nodes are the same
+  -- the number of faults is the graph's
   pub faults : h.faults ≡ g.faults
+  -- the names of the nodes are the graph's
   pub nodes : h.nodes ≡ g.nodes
   -- the processes aren't the graph's
   pub processes : AreProcessesOf g h → ⊥
 
 -- the first difference is in the ends of the edges: what comes before them is the same
 pub record HasOtherEdges (g : Graph) (h : Head) : Type 0 where
-  -- the number of faults, the nodes and the processes are the same
+  -- the number of faults is the graph's
   pub faults : h.faults ≡ g.faults
+  -- the names of the nodes are the graph's
   pub nodes : h.nodes ≡ g.nodes
+  -- the processes are the graph's
   pub processes : AreProcessesOf g h
-  -- the edges aren't
+  -- the ends of the edges aren't the graph's
   pub edges : h.edges ≢ (head_of g).edges
 
 -- the part is the first in which the head differs from the graph's, in the order of the four cases

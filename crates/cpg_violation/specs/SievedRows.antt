@@ -18,10 +18,11 @@ last_time columns = fold (λ time d. max time d.time) 0 columns
 pub record IsSievedRow (columns : List Column) (row : SievedRow) : Type 0 where
   -- the columns, in their order
   pub all : row.columns.now ≡ columns
-  -- the sieve finds each of them that matches
+  -- the sieve finds each of the columns that matches
   pub sieve : IsSieveOf columns row.sieve
-  -- no column is before `first`, and none is after `last`
+  -- no column is before `first`
   pub first : All (λ d. row.first ≤ d.time) columns
+  -- no column is after `last`
   pub last : All (λ d. d.time ≤ row.last) columns
 
 -- for each of the first `items` items a sieved row of its columns, by number (`d` is only the default of `get_or`)

@@ -20,7 +20,7 @@ places_in (Cut v most below above) s = if nat_le (number_of s v) most then place
 abbrev pub is_at : List Column → Scenario → ℕ → Bool
 is_at columns s i = nat_lt i (length columns) && matches (column_at columns i).cube s
 
--- of these places, each whose column matches in a scenario is at the leaf of that scenario
+-- each of `places` whose column matches in a scenario is at the leaf of that scenario
 pub record Sifts (columns : List Column) (places : List ℕ) (parted : Parted) : Type 0 where
   pub found : (s : Scenario) (i : ℕ) → Contains places i → i < length columns →
       matches (column_at columns i).cube s ≡ true →

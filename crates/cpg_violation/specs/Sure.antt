@@ -16,16 +16,16 @@ IsSure g tables rule x = (column : Option ℕ) (s : Scenario) → IsScenario g s
 abbrev pub AreSure : Graph → List NodeTable → Rule → List Bool → Type 0
 AreSure g tables rule marks = (x : ℕ) → x < item_count g → get_or marks x false ≡ true → IsSure g tables rule x
 
--- each item that is marked for one of V1 to V3 is one at which that rule is sure; others may be, too
+-- for each of V1 to V3: the rule is sure at each item that is marked for it; it may be sure at unmarked ones, too
 pub record AreRowMarks (g : Graph) (tables : List NodeTable) (marks : RowMarks) : Type 0 where
-  -- V1, V2 and V3, each with its marks by item
+  -- V1, V2 and V3, in this order, each by its marks of the items
   pub activity : AreSure g tables Rule.Activity marks.activity.items
   pub single : AreSure g tables Rule.Single marks.single.items
   pub present : AreSure g tables Rule.Present marks.present.items
 
--- each item that is marked for one of V4 to V9 is one at which that rule is sure; others may be, too
+-- for each of V4 to V9: the rule is sure at each item that is marked for it; it may be sure at unmarked ones, too
 pub record AreTimeMarks (g : Graph) (tables : List NodeTable) (marks : TimeMarks) : Type 0 where
-  -- V4 to V9, one after another, each with its marks by item
+  -- V4 to V9, in this order, each by its marks of the items
   pub heard : AreSure g tables Rule.Heard marks.heard.items
   pub inputs : AreSure g tables Rule.Inputs marks.inputs.items
   pub processor : AreSure g tables Rule.Processor marks.processor.items

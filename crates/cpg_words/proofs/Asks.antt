@@ -38,10 +38,12 @@ pub ok_asks : (app : App) (words : List Text) (m : ArgMatches) → app ≡ line_
     → (is_simple_and_free app ≡ true → fault_of app words ≡ []) → HasMatchesOf app words m →
     command_of words ≡ command_at (subcommand_rows_of m)
 ok_asks app words m is text faults found = elim (line_reads forms forms_refuse words text) [
-  | inl a ↦ a.call
-      ∙ ap command_at (sym ((found (ap is_simple is)).1 ∙ ap (λ (x : App). subcommand_of x words) is ∙ a.entered_is))
-  | inr r ↦
-      absurd (subst Fails (sym (ap (λ (x : App). fault_of x words) is) ∙ faults (ap is_simple_and_free is)) r.fails)
+  | inl accepted ↦ accepted.call
+      ∙ ap command_at (sym ((found (ap is_simple is)).1 ∙ ap (λ (x : App). subcommand_of x words) is ∙
+      accepted.entered_is))
+  | inr refused ↦
+      absurd (subst Fails (sym (ap (λ (x : App). fault_of x words) is) ∙ faults (ap is_simple_and_free is))
+      refused.fails)
 ]
 
 -- if `clap` refuses the words, and memory doesn't run out, they ask for no command
@@ -50,12 +52,12 @@ pub bad_asks : (app : App) (words : List Text) (e : Error) → app ≡ line_app 
     command_of words ≡ None
 -- if both took the words, `clap` would have no fault but for memory; so both refuse them
 bad_asks app words e is text faults other = elim (line_reads forms forms_refuse words text) [
-  | inl a ↦ let none : fault_of app words ≡ [] = ap (λ (x : App). fault_of x words) is ∙ a.no_fault in
+  | inl accepted ↦ let none : fault_of app words ≡ [] = ap (λ (x : App). fault_of x words) is ∙ accepted.no_fault in
       elim (subst (λ (k : Kinds). HasKind k e) none (faults (ap is_simple_and_free is))) [
         | inl memory ↦ absurd (other memory)
         | inr among ↦ absurd among
       ]
-  | inr r ↦ r.refused
+  | inr refusal ↦ refusal.refused
 ]
 
 -- ---- the getters of the matches
@@ -66,35 +68,37 @@ pub values_got : (f : Found) (id : Text) (o : Option (Bor (List (Bor Text)))) (d
     map (λ w. w.now) d.now ≡ []
     → option_map (λ s. map (λ v. v.now) s.now) o ≡ option_map raw_values (matched_of f id)
     → map (λ w. w.now) got.now ≡ values_in id (rows_of f)
-values_got f id None d got g e h = ap (λ (b : Bor (List (Bor Text))). map (λ (w : Bor Text). w.now) b.now) g
-    ∙ e ∙ ap (λ (x : Option (List Text)). unwrap_or x []) (h ∙ raw_values-rows f id)
-values_got f id (Some s) d got g e h = ap (λ (b : Bor (List (Bor Text))). map (λ (w : Bor Text). w.now) b.now) g
-    ∙ ap (λ (x : Option (List Text)). unwrap_or x []) (h ∙ raw_values-rows f id)
+values_got f id None d got o_is none_by_default same_values = ap
+    (λ (b : Bor (List (Bor Text))). map (λ (w : Bor Text). w.now) b.now) o_is
+    ∙ none_by_default ∙ ap (λ (x : Option (List Text)). unwrap_or x []) (same_values ∙ raw_values-rows f id)
+values_got f id (Some s) d got o_is none_by_default same_values = ap
+    (λ (b : Bor (List (Bor Text))). map (λ (w : Bor Text). w.now) b.now) o_is
+    ∙ ap (λ (x : Option (List Text)). unwrap_or x []) (same_values ∙ raw_values-rows f id)
 
 -- an answer to a question is one to an equal question
 pub answers_as : (asked now : Option Command) (r : Result Command WordsFault) → asked ≡ now → Answers asked r →
     Answers now r
-answers_as asked now r e a = subst (λ (o : Option Command). Answers o r) e a
+answers_as asked now r same answer = subst (λ (o : Option Command). Answers o r) same answer
 
 -- a command that is answered is the one that is asked for
 pub answered : (asked : Option Command) (r : Result Command WordsFault) → Answers asked r → IfOk r (λ c. asked ≡ Some c)
-answered asked (Ok c) a = a
-answered asked (Err f) a = tt
+answered asked (Ok c) answer = answer
+answered asked (Err f) answer = tt
 
 -- the answer Bad shows that no command is asked for
 pub answered_bad : (asked : Option Command) (r : Result Command WordsFault) → Answers asked r → r ≡ Err Bad →
     asked ≡ None
-answered_bad asked (Ok c) a e = cc
-answered_bad asked (Err Bad) a e = a
-answered_bad asked (Err WordsMemory) a e = cc
+answered_bad asked (Ok c) answer is = cc
+answered_bad asked (Err Bad) answer is = answer
+answered_bad asked (Err WordsMemory) answer is = cc
 
 module _ {Z : Type 0} where
   -- a subcommand that was found, with its rows, is what the parse asks for
   pub entered_rows : (sub : Option (Box SubCommand Z)) (name : Text) (rows : List Row) →
       Some name ≡ option_map (λ b. (out-SubCommand (box_value b)).name.now) sub
       → Some rows ≡ option_map (λ p. p.1) (subcommand_rows sub) → subcommand_rows sub ≡ Some (name, rows)
-  entered_rows None name rows n r = cc
-  entered_rows (Some b) name rows n r =
+  entered_rows None name rows same_names rows_there = cc
+  entered_rows (Some b) name rows same_names rows_there =
       let same_name : (out-SubCommand (box_value b)).name.now ≡ name = cc in
       let same_rows : rows_of (found_of (out-SubCommand (box_value b)).matches) ≡ rows = cc in
       ap₂ (λ (t : Text) (rs : List Row). Some (t, rs)) same_name same_rows

@@ -26,26 +26,26 @@ pub data Look (w : Text) : Type 0 where
 
 -- how a word of one byte looks to both
 look_one : (x : ℕ) (b : Bool) → (x == 45) ≡ b → Look (x ∷ [])
-look_one x true e = plain refl (rw e refl) (rw e refl) (rw e refl)
-look_one x false e = plain refl (rw e refl) (rw e refl) (rw e refl)
+look_one x true is = plain refl (rw is refl) (rw is refl) (rw is refl)
+look_one x false is = plain refl (rw is refl) (rw is refl) (rw is refl)
 
 -- a word of a minus (45), a byte y and a rest has a first flag
 first_flag : (y : ℕ) (rest cs : Text) → chars (y ∷ rest) ≡ cs → IsUtf8 (45 ∷ y ∷ rest) →
     (c : ℕ) × (slice_get cs 0 ≡ Some c)
 unfolding chars encode_utf8
-first_flag y rest [] e text =
-    let h : encode_utf8_all (45 ∷ chars (y ∷ rest)) ≡ 45 ∷ y ∷ rest = encodes-chars (45 ∷ y ∷ rest) text in
-    let g : 45 ∷ [] ≡ 45 ∷ y ∷ rest = ap (λ (cs : Text). encode_utf8_all (45 ∷ cs)) (sym e) ∙ h in
+first_flag y rest [] no_flags text =
+    let encoded : encode_utf8_all (45 ∷ chars (y ∷ rest)) ≡ 45 ∷ y ∷ rest = encodes-chars (45 ∷ y ∷ rest) text in
+    let alone : 45 ∷ [] ≡ 45 ∷ y ∷ rest = ap (λ (cs : Text). encode_utf8_all (45 ∷ cs)) (sym no_flags) ∙ encoded in
     cc
-first_flag y rest (c ∷ cs) e text = (c, refl)
+first_flag y rest (c ∷ cs) no_flags text = (c, refl)
 
 -- the first n + 1 bytes of a text are its first byte and then n more
 take_one : (n x : ℕ) (xs : Text) → take (1 + n) (x ∷ xs) ≡ x ∷ take n xs
-take_one n x xs = let e : 1 + n ≡ suc n = omega arith in rw e refl
+take_one n x xs = let sums : 1 + n ≡ suc n = omega arith in rw sums refl
 
 -- leaving out a byte and then n + 1 more is leaving out n + 1 behind it
 drop_one : (n x : ℕ) (xs : Text) → drop (1 + n + 1) (x ∷ xs) ≡ drop (n + 1) xs
-drop_one n x xs = let e : 1 + n + 1 ≡ suc (n + 1) = omega arith in rw e refl
+drop_one n x xs = let sums : 1 + n + 1 ≡ suc (n + 1) = omega arith in rw sums refl
 
 -- what is before the first `=` of a word with a minus in front is the minus and what is before it in the word
 before_minus : (w : Text) → before_first is_equals (45 ∷ w) ≡ 45 ∷ before_first is_equals w
@@ -65,13 +65,14 @@ value_long w = rw (after_minus (45 ∷ w), after_minus w) refl
 
 -- a byte that isn't a minus (45), with the sides of the test exchanged
 not_minus : (y : ℕ) → (y == 45) ≡ false → (45 == y) ≡ false
-not_minus y h = grind (arith, nat_tests)
+not_minus y is_false = grind (arith, nat_tests)
 
 -- a second byte that isn't a minus makes the word no name of the turns
 other_second : (y : ℕ) (rest : Text) (b : Bool) → (y == 61) ≡ b → (45 == y) ≡ false →
     bytes_eq (codes "-turns") (before_first is_equals (y ∷ rest)) ≡ false
-other_second y rest true e h = rw e refl
-other_second y rest false e h = rw (e, take_one (prefix_len (λ x. not (is_equals x)) rest) y rest, h) refl
+other_second y rest true is is_false = rw is refl
+other_second y rest false is is_false = rw
+    (is, take_one (prefix_len (λ x. not (is_equals x)) rest) y rest, is_false) refl
 
 -- a word that begins with two dashes and goes on is the option `turns` or a strange option; 45 is the dash
 look_long : (x y z : ℕ) (zs : Text) → (x == 45) ≡ true → (y == 45) ≡ true → (b : Bool) →
@@ -112,6 +113,6 @@ look (x ∷ y ∷ rest) text = look_two x y rest (x == 45) (y == 45) refl refl t
 
 -- an option is no number
 pub option_number : (w : Text) → is_option w ≡ true → number w ≡ None
-option_number [] e = cc
-option_number (b ∷ []) e = cc
-option_number (b ∷ c ∷ rest) e = let is : b ≡ 45 = eqb-true b 45 e in rw is refl
+option_number [] is_true = cc
+option_number (b ∷ []) is_true = cc
+option_number (b ∷ c ∷ rest) is_true = let is : b ≡ 45 = eqb-true b 45 is_true in rw is refl

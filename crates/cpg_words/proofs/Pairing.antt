@@ -1,4 +1,4 @@
--- Pairs read so far, and those to come.
+-- The pairs of `hyper` that were read so far, and those to come: together they are the pairs of all words.
 use Rattle.std.proofs.Common.{◌≡◌, ◌∙◌, ◌<◌, ◌≤◌, ◌-◌, ◌==◌, ℕ, suc, false, Bor, List, [], ◌∷◌, ◌++◌, Option, Some}
 use Rattle.std.proofs.Common.{None, refl, sym, ap, ap₂, append_assoc, length, take, drop, get_or, arith}
 use Rattle.cpg_words.specs.declared.command.Pair.{Pair}
@@ -27,14 +27,15 @@ joined-more ps n graph (Some qs) = ap Some (append_assoc ps (record { period = n
 
 -- the rest behind two words has two words less than all, and so many of it are the whole rest
 rest_is : (rest : List (Bor Text)) → take (suc (suc (length rest)) - 2) rest ≡ rest
-rest_is rest = let e : suc (suc (length rest)) - 2 ≡ length rest = omega arith in rw e (take-length rest)
+rest_is rest =
+    let same_length : suc (suc (length rest)) - 2 ≡ length rest = omega arith in rw same_length (take-length rest)
 
 -- two words or more are a period, a graph and the words after them
 pub left_is : (left : List (Bor Text)) (d : Bor Text) → 2 ≤ length left
     → texts left ≡ (get_or left 0 d).now ∷ (get_or left 1 d).now ∷ texts (take (length left - 2) (drop 2 left))
-left_is [] d h = absurd (omega arith)
-left_is (a ∷ []) d h = absurd (omega arith)
-left_is (a ∷ b ∷ rest) d h = ap (λ (xs : List (Bor Text)). a.now ∷ b.now ∷ texts xs) (sym (rest_is rest))
+left_is [] d two = absurd (omega arith)
+left_is (a ∷ []) d two = absurd (omega arith)
+left_is (a ∷ b ∷ rest) d two = ap (λ (xs : List (Bor Text)). a.now ∷ b.now ∷ texts xs) (sym (rest_is rest))
 
 -- if the next pair p is read, the pairs read so far and those of the words left are still the pairs `whole`
 pub pairs_step : (left : List (Bor Text)) (d : Bor Text) (items now : List Pair) (p : Pair)

@@ -1,4 +1,5 @@
--- What the rows hold of one argument.
+-- What the rows of a parse hold of one argument: a value that is added comes last among its values, and changes no
+-- values of others.
 use Rattle.std.proofs.Common.{◌≡◌, Bool, true, false, List, [], ◌∷◌, ◌++◌, refl}
 use Rattle.std.specs.Str.{bytes_eq}
 use Rattle.std.proofs.lemmas.Slice.Eq.{bytes_eq-Decides}
@@ -11,8 +12,8 @@ use Rattle.cpg_words.proofs.Walking.{add}
 add_here : (id v : Text) (r : Row) (rs : List Row) (b : Bool) → bytes_eq r.id id ≡ b →
     values_in id (add id v rs) ≡ values_in id rs ++ v ∷ []
     → values_in id (add id v (r ∷ rs)) ≡ values_in id (r ∷ rs) ++ v ∷ []
-add_here id v r rs true e h = rw (e, e) refl
-add_here id v r rs false e h = rw (e, e) h
+add_here id v r rs true b_is v_is = rw (b_is, b_is) refl
+add_here id v r rs false b_is v_is = rw (b_is, b_is) v_is
 
 -- a value that is added for an argument comes last among its values
 pub add_same : (id v : Text) (rows : List Row) → bytes_eq id id ≡ true →
@@ -26,12 +27,12 @@ add_past : (id other v : Text) (r : Row) (rs : List Row) (b c : Bool) → bytes_
     → values_in other (add id v rs) ≡ values_in other rs →
     values_in other (add id v (r ∷ rs)) ≡ values_in other (r ∷ rs)
 -- the first row is that of `id`, that of the other argument, or of neither
-add_past id other v r rs true c e f off h =
-    let same : r.id ≡ id = (bytes_eq-Decides r.id id).0 e in
+add_past id other v r rs true c of_id of_other off unchanged =
+    let same : r.id ≡ id = (bytes_eq-Decides r.id id).0 of_id in
     let not_other : bytes_eq r.id other ≡ false = rw same off in
-    rw (e, not_other) refl
-add_past id other v r rs false true e f off h = rw (e, f) refl
-add_past id other v r rs false false e f off h = rw (e, f) h
+    rw (of_id, not_other) refl
+add_past id other v r rs false true of_id of_other off unchanged = rw (of_id, of_other) refl
+add_past id other v r rs false false of_id of_other off unchanged = rw (of_id, of_other) unchanged
 
 -- a value that is added for an argument leaves the values of the others as they are
 pub add_other : (id other v : Text) (rows : List Row) → bytes_eq id other ≡ false →

@@ -27,18 +27,18 @@ is_refused (Some p) = list_any (λ v. not (is_some (number v))) p.turns
 
 -- parts that are refused stay refused with a positional w in front
 refused_positional : (w : Text) (o : Option Parts) → is_refused o ≡ true → is_refused (with_positional w o) ≡ true
-refused_positional w None h = refl
-refused_positional w (Some p) h = h
+refused_positional w None is_true = refl
+refused_positional w (Some p) is_true = is_true
 
 -- parts that are refused are refused with one value of `--turns` more
 refused_turns : (v : Text) (o : Option Parts) → is_refused o ≡ true → is_refused (with_turns v o) ≡ true
-refused_turns v None h = refl
-refused_turns v (Some p) h = rw h (or-true (not (is_some (number v))))
+refused_turns v None is_true = refl
+refused_turns v (Some p) is_true = rw is_true (or-true (not (is_some (number v))))
 
 -- parts with a value v of `--turns` that is no number are refused
 refused_value : (v : Text) (o : Option Parts) → number v ≡ None → is_refused (with_turns v o) ≡ true
-refused_value v None e = refl
-refused_value v (Some p) e = rw e refl
+refused_value v None is = refl
+refused_value v (Some p) is = rw is refl
 
 -- `clap`, from the rows at the start on, and the rule both take the words, and find the same parts
 pub record Taken (fault : Kinds) (rows start : List Row) (parts : Option Parts) : Type 0 where
@@ -66,7 +66,7 @@ Verdict fault rows start parts = Taken fault rows start parts ⊎ Refused fault 
 
 -- equal faults fail alike
 fails_as : (a b : Kinds) → a ≡ b → Walking.Fails b → Walking.Fails a
-fails_as a b e f = subst Walking.Fails (sym e) f
+fails_as a b same f = subst Walking.Fails (sym same) f
 
 -- ---- after `--`
 

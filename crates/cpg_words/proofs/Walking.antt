@@ -112,41 +112,41 @@ trailing_step (after_turn v) rows w = refl
 pub plain_passes : (last : Last) (rows : List Row) (w : Text) → bytes_eq w (codes "--") ≡ false → long_of w ≡ None →
     short_of w ≡ None
     → fault_at (at false last rows) w ≡ []
-plain_passes clear rows w d l s = rw (d, l, s) refl
-plain_passes (after_word v) rows w d l s = rw (d, l, s) refl
-plain_passes (after_turn v) rows w d l s = rw (d, l, s) refl
+plain_passes clear rows w is_false w_is s = rw (is_false, w_is, s) refl
+plain_passes (after_word v) rows w is_false w_is s = rw (is_false, w_is, s) refl
+plain_passes (after_turn v) rows w is_false w_is s = rw (is_false, w_is, s) refl
 
 -- a word that is no option is a positional
 pub plain_step : (last : Last) (rows : List Row) (w : Text) → bytes_eq w (codes "--") ≡ false → long_of w ≡ None →
     short_of w ≡ None
     → step_of (at false last rows) w ≡ at false (after_word w) (rows_with last rows)
 unfolding walked
-plain_step clear rows w d l s = rw (d, l, s) refl
-plain_step (after_word v) rows w d l s = rw (d, l, s) refl
-plain_step (after_turn v) rows w d l s = rw (d, l, s) refl
+plain_step clear rows w is_false w_is s = rw (is_false, w_is, s) refl
+plain_step (after_word v) rows w is_false w_is s = rw (is_false, w_is, s) refl
+plain_step (after_turn v) rows w is_false w_is s = rw (is_false, w_is, s) refl
 
 -- the word `--` is no fault
 pub dashes_passes : (last : Last) (rows : List Row) (w : Text) → bytes_eq w (codes "--") ≡ true →
     fault_at (at false last rows) w ≡ []
-dashes_passes clear rows w d = rw d refl
-dashes_passes (after_word v) rows w d = rw d refl
-dashes_passes (after_turn v) rows w d = rw d refl
+dashes_passes clear rows w is_true = rw is_true refl
+dashes_passes (after_word v) rows w is_true = rw is_true refl
+dashes_passes (after_turn v) rows w is_true = rw is_true refl
 
 -- `--` ends the options
 pub dashes_step : (last : Last) (rows : List Row) (w : Text) → bytes_eq w (codes "--") ≡ true →
     step_of (at false last rows) w ≡ at true last rows
 unfolding walked
-dashes_step clear rows w d = rw d refl
-dashes_step (after_word v) rows w d = rw d refl
-dashes_step (after_turn v) rows w d = rw d refl
+dashes_step clear rows w is_true = rw is_true refl
+dashes_step (after_word v) rows w is_true = rw is_true refl
+dashes_step (after_turn v) rows w is_true = rw is_true refl
 
 -- `--turns=VALUE` is no fault
 pub value_passes : (last : Last) (rows : List Row) (w name v : Text) → bytes_eq w (codes "--") ≡ false →
     long_of w ≡ Some (name, Some v)
     → bytes_eq (codes "turns") name ≡ true → fault_at (at false last rows) w ≡ []
-value_passes clear rows w name v d l n = rw (d, l, n) refl
-value_passes (after_word x) rows w name v d l n = rw (d, l, n) refl
-value_passes (after_turn x) rows w name v d l n = rw (d, l, n) refl
+value_passes clear rows w name v is_false is is_true = rw (is_false, is, is_true) refl
+value_passes (after_word x) rows w name v is_false is is_true = rw (is_false, is, is_true) refl
+value_passes (after_turn x) rows w name v is_false is is_true = rw (is_false, is, is_true) refl
 
 -- the word `--turns=VALUE` adds its value to the rows
 pub value_step : (last : Last) (rows : List Row) (w name v : Text) → bytes_eq w (codes "--") ≡ false →
@@ -154,75 +154,75 @@ pub value_step : (last : Last) (rows : List Row) (w name v : Text) → bytes_eq 
     → bytes_eq (codes "turns") name ≡ true →
     step_of (at false last rows) w ≡ at false clear (add (codes "turns") v (rows_with last rows))
 unfolding walked
-value_step clear rows w name v d l n = rw (d, l, n) refl
-value_step (after_word x) rows w name v d l n = rw (d, l, n) refl
-value_step (after_turn x) rows w name v d l n = rw (d, l, n) refl
+value_step clear rows w name v is_false is is_true = rw (is_false, is, is_true) refl
+value_step (after_word x) rows w name v is_false is is_true = rw (is_false, is, is_true) refl
+value_step (after_turn x) rows w name v is_false is is_true = rw (is_false, is, is_true) refl
 
 -- the word `--turns` is no fault by itself: its value may follow
 pub turns_passes : (last : Last) (rows : List Row) (w name : Text) → bytes_eq w (codes "--") ≡ false →
     long_of w ≡ Some (name, None)
     → bytes_eq (codes "turns") name ≡ true → fault_at (at false last rows) w ≡ []
-turns_passes clear rows w name d l n = rw (d, l, n) refl
-turns_passes (after_word x) rows w name d l n = rw (d, l, n) refl
-turns_passes (after_turn x) rows w name d l n = rw (d, l, n) refl
+turns_passes clear rows w name is_false is is_true = rw (is_false, is, is_true) refl
+turns_passes (after_word x) rows w name is_false is is_true = rw (is_false, is, is_true) refl
+turns_passes (after_turn x) rows w name is_false is is_true = rw (is_false, is, is_true) refl
 
 -- `--turns` waits for its value
 pub turns_step : (last : Last) (rows : List Row) (w name : Text) → bytes_eq w (codes "--") ≡ false →
     long_of w ≡ Some (name, None)
     → bytes_eq (codes "turns") name ≡ true → step_of (at false last rows) w ≡ awaiting (rows_with last rows)
 unfolding walked
-turns_step clear rows w name d l n = rw (d, l, n) refl
-turns_step (after_word x) rows w name d l n = rw (d, l, n) refl
-turns_step (after_turn x) rows w name d l n = rw (d, l, n) refl
+turns_step clear rows w name is_false is is_true = rw (is_false, is, is_true) refl
+turns_step (after_word x) rows w name is_false is is_true = rw (is_false, is, is_true) refl
+turns_step (after_turn x) rows w name is_false is is_true = rw (is_false, is, is_true) refl
 
 -- another option fails
 pub strange_fails : (last : Last) (rows : List Row) (w name : Text) (v : Option Text) → bytes_eq w (codes "--") ≡ false
     → long_of w ≡ Some (name, v) → bytes_eq (codes "turns") name ≡ false → Fails (fault_at (at false last rows) w)
-strange_fails clear rows w name v d l n = rw (d, l, n) tt
-strange_fails (after_word x) rows w name v d l n = rw (d, l, n) tt
-strange_fails (after_turn x) rows w name v d l n = rw (d, l, n) tt
+strange_fails clear rows w name v w_is_false is n = rw (w_is_false, is, n) tt
+strange_fails (after_word x) rows w name v w_is_false is n = rw (w_is_false, is, n) tt
+strange_fails (after_turn x) rows w name v w_is_false is n = rw (w_is_false, is, n) tt
 
 -- a short option fails
 pub short_fails : (last : Last) (rows : List Row) (w flags : Text) (c : ℕ) → bytes_eq w (codes "--") ≡ false →
     long_of w ≡ None
     → short_of w ≡ Some flags → slice_get (chars flags) 0 ≡ Some c → Fails (fault_at (at false last rows) w)
 unfolding flags_fault chars
-short_fails last rows w [] c d l s f = cc
-short_fails clear rows w (y ∷ ys) c d l s f = rw (d, l, s, f) tt
-short_fails (after_word x) rows w (y ∷ ys) c d l s f = rw (d, l, s, f) tt
-short_fails (after_turn x) rows w (y ∷ ys) c d l s f = rw (d, l, s, f) tt
+short_fails last rows w [] c is_false w_is s c_is = cc
+short_fails clear rows w (y ∷ ys) c is_false w_is s c_is = rw (is_false, w_is, s, c_is) tt
+short_fails (after_word x) rows w (y ∷ ys) c is_false w_is s c_is = rw (is_false, w_is, s, c_is) tt
+short_fails (after_turn x) rows w (y ∷ ys) c is_false w_is s c_is = rw (is_false, w_is, s, c_is) tt
 
 -- a value of `--turns` that is no option is no fault
 pub turn_passes : (rows : List Row) (w : Text) → bytes_eq w (codes "--") ≡ false → long_of w ≡ None →
     short_of w ≡ None →
     fault_at (awaiting rows) w ≡ []
-turn_passes rows w d l s = rw (d, l, s) refl
+turn_passes rows w is_false w_is s = rw (is_false, w_is, s) refl
 
 -- the word after `--turns` is its value, if it is no option
 pub turn_step : (rows : List Row) (w : Text) → bytes_eq w (codes "--") ≡ false → long_of w ≡ None → short_of w ≡ None
     → step_of (awaiting rows) w ≡ at false (after_turn w) rows
 unfolding walked
-turn_step rows w d l s = rw (d, l, s) refl
+turn_step rows w is_false w_is s = rw (is_false, w_is, s) refl
 
 -- another `--turns` in place of the value fails
 pub awaiting_turns : (rows : List Row) (w name : Text) (v : Option Text) → bytes_eq w (codes "--") ≡ false →
     long_of w ≡ Some (name, v)
     → bytes_eq (codes "turns") name ≡ true → Fails (fault_at (awaiting rows) w)
-awaiting_turns rows w name (Some v) d l n = rw (d, l, n) tt
-awaiting_turns rows w name None d l n = rw (d, l, n) tt
+awaiting_turns rows w name (Some v) is_false is is_true = rw (is_false, is, is_true) tt
+awaiting_turns rows w name None is_false is is_true = rw (is_false, is, is_true) tt
 
 -- another option in place of the value of `--turns` fails
 pub awaiting_strange : (rows : List Row) (w name : Text) (v : Option Text) → bytes_eq w (codes "--") ≡ false →
     long_of w ≡ Some (name, v)
     → bytes_eq (codes "turns") name ≡ false → Fails (fault_at (awaiting rows) w)
-awaiting_strange rows w name v d l n = rw (d, l, n) tt
+awaiting_strange rows w name v w_is_false is n = rw (w_is_false, is, n) tt
 
 -- a short option in place of the value of `--turns` fails
 pub awaiting_short : (rows : List Row) (w flags : Text) (c : ℕ) → bytes_eq w (codes "--") ≡ false → long_of w ≡ None
     → short_of w ≡ Some flags → slice_get (chars flags) 0 ≡ Some c → Fails (fault_at (awaiting rows) w)
 unfolding flags_fault chars
-awaiting_short rows w [] c d l s f = cc
-awaiting_short rows w (y ∷ ys) c d l s f = rw (d, l, s, f) tt
+awaiting_short rows w [] c is_false w_is s c_is = cc
+awaiting_short rows w (y ∷ ys) c is_false w_is s c_is = rw (is_false, w_is, s, c_is) tt
 
 -- ---- the walk over all words
 
@@ -238,13 +238,14 @@ rows_from w ws = (settled level_rules (fold step_of w ws).held).rows
 pub fault_steps : (w after : Walk) (x : Text) (xs : List Text) → fault_at w x ≡ [] → step_of w x ≡ after →
     fault_from w (x ∷ xs) ≡ fault_from after xs
 unfolding walk_fault
-fault_steps w after x xs f s = ap₂ (λ (k : Kinds) (v : Walk).
-    or_else (or_else k (walk_fault (level []) [] v xs)) (settle_fault level_rules false (fold step_of v xs).held)) f s
+fault_steps w after x xs w_is s = ap₂ (λ (k : Kinds) (v : Walk).
+    or_else (or_else k (walk_fault (level []) [] v xs)) (settle_fault level_rules false (fold step_of v xs).held))
+    w_is s
 
 -- the rows of words are those after the first, and then the others
 pub rows_step : (w after : Walk) (x : Text) (xs : List Text) → step_of w x ≡ after →
     rows_from w (x ∷ xs) ≡ rows_from after xs
-rows_step w after x xs s = ap (λ (v : Walk). rows_from v xs) s
+rows_step w after x xs is = ap (λ (v : Walk). rows_from v xs) is
 
 -- if the first of two faults is there, a fault is there
 pub or_else_fails : (a b : Kinds) → Fails a → Fails (or_else a b)
@@ -260,5 +261,5 @@ fault_stops w x xs f = or_else_fails _ _ (or_else_fails _ (walk_fault (level [])
 pub awaiting_dashes : (rows : List Row) (w : Text) (xs : List Text) → bytes_eq w (codes "--") ≡ true →
     Fails (fault_from (awaiting rows) (w ∷ xs))
 unfolding walk_fault walked
-awaiting_dashes rows w [] d = rw d tt
-awaiting_dashes rows w (x ∷ xs) d = rw d tt
+awaiting_dashes rows w [] is_true = rw is_true tt
+awaiting_dashes rows w (x ∷ xs) is_true = rw is_true tt

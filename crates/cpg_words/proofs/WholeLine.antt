@@ -78,8 +78,8 @@ level_fault_is n ws =
 
 -- whether an argument has a row or not, no default adds one
 no_default : (id : Text) (rows : List Row) (b : Bool) → has_row id rows ≡ b → cond (has_row id rows) rows rows ≡ rows
-no_default id rows true e = rw e refl
-no_default id rows false e = rw e refl
+no_default id rows true is = rw is refl
+no_default id rows false is = rw is refl
 
 -- each command's level has the rows of the walk over its words
 finished_is : (ws : List Text) →
@@ -121,12 +121,18 @@ pub record Unnamed (fs : List Form) (w : Text) : Type 0 where
 -- if a word names a form among fs and its level, or neither, so it does with a form f in front
 name_here : (f : Form) (fs : List Form) (w : Text) (b : Bool) → bytes_eq f.0 w ≡ b → Named fs w ⊎ Unnamed fs w →
     Named (f ∷ fs) w ⊎ Unnamed (f ∷ fs) w
-name_here f fs w true e rest =
-    let same : f.0 ≡ w = (bytes_eq-Decides f.0 w).0 e in
-    inl (record { form = f; in_forms = rw e refl; in_names = rw e (ap (λ (n : Text). Some (n, [])) same); in_line = rw e (ap (λ (n : Text). Some (Walking.level n)) same) })
-name_here f fs w false e (inl h) =
-    inl (record { form = h.form; in_forms = rw e h.in_forms; in_names = rw e h.in_names; in_line = rw e h.in_line })
-name_here f fs w false e (inr h) = inr (record { in_forms = rw e h.in_forms; in_names = rw e h.in_names })
+name_here f fs w true is rest =
+    let same : f.0 ≡ w = (bytes_eq-Decides f.0 w).0 is in
+    inl (record {
+      form = f;
+      in_forms = rw is refl;
+      in_names = rw is (ap (λ (n : Text). Some (n, [])) same);
+      in_line = rw
+          is (ap (λ (n : Text). Some (Walking.level n)) same);
+    })
+name_here f fs w false is (inl h) =
+    inl (record { form = h.form; in_forms = rw is h.in_forms; in_names = rw is h.in_names; in_line = rw is h.in_line })
+name_here f fs w false is (inr h) = inr (record { in_forms = rw is h.in_forms; in_names = rw is h.in_names })
 
 -- each word is the name of a command in the rule and for `clap` alike, or in neither
 pub named : (fs : List Form) (w : Text) → Named fs w ⊎ Unnamed fs w
@@ -152,25 +158,25 @@ entering w ws = record start { stopped = Some (w, ws) }
 first_walked : (fs : List Form) (w : Text) → find (answers_to w) (names_in fs) ≡ Some (w, []) →
     walked [] (names_in fs) start w ≡ entering w []
 unfolding walked
-first_walked fs w e = rw e refl
+first_walked fs w is = rw is refl
 
 -- a first word that names a command is no fault
 first_fault : (fs : List Form) (w : Text) → find (answers_to w) (names_in fs) ≡ Some (w, []) →
     turn_fault (line fs).top (names_in fs) start w ≡ []
-first_fault fs w e = rw (e, and_false (bytes_eq w (codes "help"))) refl
+first_fault fs w is = rw (is, and_false (bytes_eq w (codes "help"))) refl
 
 -- after a command's name the walk over the top stops, and leaves the other words
 entered_walk : (fs : List Form) (w : Text) (ws : List Text) → find (answers_to w) (names_in fs) ≡ Some (w, [])
     → walk [] (names_in fs) nothing_held (w ∷ ws) ≡ entering w ws
-entered_walk fs w ws e = ap (λ (v : Walk). fold (walked [] (names_in fs)) v ws) (first_walked fs w e)
+entered_walk fs w ws is = ap (λ (v : Walk). fold (walked [] (names_in fs)) v ws) (first_walked fs w is)
     ∙ sym (walk_stopped [] (names_in fs) start w [] ws)
 
 -- a command's name and the words after it are no fault of the top
 entered_fault_is : (fs : List Form) (w : Text) (ws : List Text) → find (answers_to w) (names_in fs) ≡ Some (w, [])
     → walk_fault (line fs).top (names_in fs) start (w ∷ ws) ≡ []
 unfolding walk_fault
-entered_fault_is fs w ws e = ap₂ (λ (k : Kinds) (v : Walk). or_else k (walk_fault (line fs).top (names_in fs) v ws))
-    (first_fault fs w e) (first_walked fs w e)
+entered_fault_is fs w ws is = ap₂ (λ (k : Kinds) (v : Walk). or_else k (walk_fault (line fs).top (names_in fs) v ws))
+    (first_fault fs w is) (first_walked fs w is)
     ∙ stopped_fault (line fs).top (names_in fs) start (w, []) ws
 
 -- the faults at the end of the line, after those before
@@ -185,8 +191,8 @@ named_fault : (fs : List Form) (w : Text) (ws : List Text) → find (answers_to 
     level_at fs w ≡ Some (Walking.level w)
     → built_fault (line fs) nothing_held (w ∷ ws) ≡ Walking.fault_from (Walking.at false Walking.clear []) ws
 unfolding defaults_fault
-named_fault fs w ws n l =
-    ap₂ (line_end fs) (entered_walk fs w ws n) (entered_fault_is fs w ws n)
+named_fault fs w ws w_is l =
+    ap₂ (line_end fs) (entered_walk fs w ws w_is) (entered_fault_is fs w ws w_is)
     ∙ rw l (or_else_none (level_fault (Walking.level w) [] nothing_held ws false []))
     ∙ level_fault_is w ws
 
@@ -195,8 +201,8 @@ named_rows : (fs : List Form) (w : Text) (ws : List Text) → find (answers_to w
     level_at fs w ≡ Some (Walking.level w)
     → entered (line fs) (stop_after [] (names_in fs) (w ∷ ws))
     ≡ Some (w, Walking.rows_from (Walking.at false Walking.clear []) ws)
-named_rows fs w ws n l =
-    ap (λ (v : Walk). entered (line fs) v.stopped) (entered_walk fs w ws n)
+named_rows fs w ws w_is l =
+    ap (λ (v : Walk). entered (line fs) v.stopped) (entered_walk fs w ws w_is)
     ∙ rw l (ap (λ (rows : List Row). Some (w, rows)) (finished_is ws))
 
 -- ---- a first word that names no command
@@ -205,28 +211,28 @@ named_rows fs w ws n l =
 unnamed_turn : (fs : List Form) (w : Text) → find (answers_to w) (names_in fs) ≡ None → Look w
     → Walking.Fails (turn_fault (line fs).top (names_in fs) start w) ⊎ (bytes_eq w (codes "--") ≡ true)
 unfolding flags_fault chars
-unnamed_turn fs w n (plain o d l s) = inl (rw (n, d, l, s) tt)
-unnamed_turn fs w n (dashes o d) = inr d
-unnamed_turn fs w n (turns name v o d t i l e) = inl (rw (n, d, l) tt)
-unnamed_turn fs w n (strange name v o d t l e) = inl (rw (n, d, l) tt)
-unnamed_turn fs w n (short [] c o d t l s f) = cc
-unnamed_turn fs w n (short (y ∷ ys) c o d t l s f) = inl (rw (n, d, l, s, f) tt)
+unnamed_turn fs w is (plain o d l s) = inl (rw (is, d, l, s) tt)
+unnamed_turn fs w is (dashes o d) = inr d
+unnamed_turn fs w is (turns name v o d t i l e) = inl (rw (is, d, l) tt)
+unnamed_turn fs w is (strange name v o d t l e) = inl (rw (is, d, l) tt)
+unnamed_turn fs w is (short [] c o d t l s f) = cc
+unnamed_turn fs w is (short (y ∷ ys) c o d t l s f) = inl (rw (is, d, l, s, f) tt)
 
 -- `--` as the first word fails
 unnamed_dashes : (fs : List Form) (w : Text) (ws : List Text) → find (answers_to w) (names_in fs) ≡ None →
     bytes_eq w (codes "--") ≡ true
     → Walking.Fails (built_fault (line fs) nothing_held (w ∷ ws))
 unfolding walk_fault walked defaults_fault
-unnamed_dashes fs w [] n d = rw (n, d) tt
-unnamed_dashes fs w (x ∷ xs) n d = rw (n, d) tt
+unnamed_dashes fs w [] is is_true = rw (is, is_true) tt
+unnamed_dashes fs w (x ∷ xs) is is_true = rw (is, is_true) tt
 
 -- a first word that is no command's name fails
 unnamed_fails : (fs : List Form) (w : Text) (ws : List Text) → IsUtf8 w → find (answers_to w) (names_in fs) ≡ None
     → Walking.Fails (built_fault (line fs) nothing_held (w ∷ ws))
 unfolding walk_fault
-unnamed_fails fs w ws text n = elim (unnamed_turn fs w n (look w text)) [
+unnamed_fails fs w ws text is = elim (unnamed_turn fs w is (look w text)) [
   | inl f ↦ Walking.or_else_fails _ _ (Walking.or_else_fails _ _ f)
-  | inr d ↦ unnamed_dashes fs w ws n d
+  | inr d ↦ unnamed_dashes fs w ws is d
 ]
 
 -- ---- the command line
@@ -243,27 +249,28 @@ form_refuses : (f : Form) (fs : List Form) (w : Text) (p : Parts) (b : Bool) →
     (f.1 p.positionals p.turns ≡ None) →
     command_named fs w p ≡ None
     → command_named (f ∷ fs) w p ≡ None
-form_refuses f fs w p true e h rest = rw e h
-form_refuses f fs w p false e h rest = rw e rest
+form_refuses f fs w p true w_is h rest = rw w_is h
+form_refuses f fs w p false w_is h rest = rw w_is rest
 
 -- if each form refuses the values of `--turns` that are no numbers, the command of every word does
 each_refuses : (fs : List Form) → EachRefuses fs → (w : Text) (p : Parts) → is_refused (Some p) ≡ true →
     command_named fs w p ≡ None
-each_refuses [] each w p h = refl
-each_refuses (f ∷ fs) each w p h =
-    form_refuses f fs w p (bytes_eq f.0 w) refl (each.0 p.positionals p.turns h) (each_refuses fs each.1 w p h)
+each_refuses [] each w p is_true = refl
+each_refuses (f ∷ fs) each w p is_true =
+    form_refuses f fs w p (bytes_eq f.0 w) refl (each.0 p.positionals p.turns is_true)
+    (each_refuses fs each.1 w p is_true)
 
 -- parts that are refused make no command
 refused_parts : (fs : List Form) → EachRefuses fs → (w : Text) (o : Option Parts) → is_refused o ≡ true →
     option_and_then (command_named fs w) o ≡ None
-refused_parts fs each w None h = refl
-refused_parts fs each w (Some p) h = each_refuses fs each w p h
+refused_parts fs each w None is_true = refl
+refused_parts fs each w (Some p) is_true = each_refuses fs each w p is_true
 
 -- a name that no form has makes no command
 no_form : (fs : List Form) (w : Text) (o : Option Parts) → find (λ f. bytes_eq f.0 w) fs ≡ None →
     option_and_then (command_named fs w) o ≡ None
-no_form fs w None e = refl
-no_form fs w (Some p) e = rw e refl
+no_form fs w None is = refl
+no_form fs w (Some p) is = rw is refl
 
 -- `clap` and the rule both accept the words: the name of a form, and words that it takes
 pub record Accepted (fs : List Form) (words : List Text) : Type 0 where
@@ -326,64 +333,64 @@ line_reads fs each (w ∷ ws) text = elim (named fs w) [
 
 -- an option that is tested to have no number is None
 not_number : (o : Option ℕ) → (not (is_some o) || false) ≡ true → o ≡ None
-not_number None e = refl
-not_number (Some n) e = cc
+not_number None is_true = refl
+not_number (Some n) is_true = cc
 
 -- a form of one word refuses any parts with a value of `--turns` that is no number
 one_word_refuses : (f : Text → Command) (ps ts : List Text) →
     is_refused (Some (record { positionals = ps; turns = ts })) ≡ true →
     one_word f ps ts ≡ None
-one_word_refuses f ps [] h = cc
-one_word_refuses f [] (t ∷ ts) h = refl
-one_word_refuses f (a ∷ []) (t ∷ ts) h = refl
-one_word_refuses f (a ∷ b ∷ ps) (t ∷ ts) h = refl
+one_word_refuses f ps [] is_true = cc
+one_word_refuses f [] (t ∷ ts) is_true = refl
+one_word_refuses f (a ∷ []) (t ∷ ts) is_true = refl
+one_word_refuses f (a ∷ b ∷ ps) (t ∷ ts) is_true = refl
 
 -- a form of two words refuses any parts with a value of `--turns` that is no number
 two_words_refuses : (f : Text → Text → Command) (ps ts : List Text) →
     is_refused (Some (record { positionals = ps; turns = ts })) ≡ true →
     two_words f ps ts ≡ None
-two_words_refuses f ps [] h = cc
-two_words_refuses f [] (t ∷ ts) h = refl
-two_words_refuses f (a ∷ []) (t ∷ ts) h = refl
-two_words_refuses f (a ∷ b ∷ []) (t ∷ ts) h = refl
-two_words_refuses f (a ∷ b ∷ c ∷ ps) (t ∷ ts) h = refl
+two_words_refuses f ps [] is_true = cc
+two_words_refuses f [] (t ∷ ts) is_true = refl
+two_words_refuses f (a ∷ []) (t ∷ ts) is_true = refl
+two_words_refuses f (a ∷ b ∷ []) (t ∷ ts) is_true = refl
+two_words_refuses f (a ∷ b ∷ c ∷ ps) (t ∷ ts) is_true = refl
 
 -- a form of three words refuses any parts with a value of `--turns` that is no number; by how many words and values
 -- there are
 three_words_refuses : (f : Text → Text → Text → Command) (ps ts : List Text) →
     is_refused (Some (record { positionals = ps; turns = ts })) ≡ true →
     three_words f ps ts ≡ None
-three_words_refuses f ps [] h = cc
-three_words_refuses f [] (t ∷ ts) h = refl
-three_words_refuses f (a ∷ []) (t ∷ ts) h = refl
-three_words_refuses f (a ∷ b ∷ []) (t ∷ ts) h = refl
-three_words_refuses f (a ∷ b ∷ c ∷ []) (t ∷ ts) h = refl
-three_words_refuses f (a ∷ b ∷ c ∷ d ∷ ps) (t ∷ ts) h = refl
+three_words_refuses f ps [] is_true = cc
+three_words_refuses f [] (t ∷ ts) is_true = refl
+three_words_refuses f (a ∷ []) (t ∷ ts) is_true = refl
+three_words_refuses f (a ∷ b ∷ []) (t ∷ ts) is_true = refl
+three_words_refuses f (a ∷ b ∷ c ∷ []) (t ∷ ts) is_true = refl
+three_words_refuses f (a ∷ b ∷ c ∷ d ∷ ps) (t ∷ ts) is_true = refl
 
 -- `play` refuses any parts with a value of `--turns` that is no number; by how many words and values there are
 play_refuses : (ps ts : List Text) → is_refused (Some (record { positionals = ps; turns = ts })) ≡ true →
     play_of ps ts ≡ None
-play_refuses [] ts h = refl
-play_refuses (a ∷ []) ts h = refl
-play_refuses (a ∷ b ∷ []) ts h = refl
-play_refuses (a ∷ b ∷ c ∷ d ∷ ps) ts h = refl
-play_refuses (a ∷ b ∷ c ∷ []) [] h = refl
-play_refuses (a ∷ b ∷ c ∷ []) (t ∷ u ∷ ts) h = refl
-play_refuses (a ∷ b ∷ c ∷ []) (t ∷ []) h = rw (not_number (number t) h) refl
+play_refuses [] ts is_true = refl
+play_refuses (a ∷ []) ts is_true = refl
+play_refuses (a ∷ b ∷ []) ts is_true = refl
+play_refuses (a ∷ b ∷ c ∷ d ∷ ps) ts is_true = refl
+play_refuses (a ∷ b ∷ c ∷ []) [] is_true = refl
+play_refuses (a ∷ b ∷ c ∷ []) (t ∷ u ∷ ts) is_true = refl
+play_refuses (a ∷ b ∷ c ∷ []) (t ∷ []) is_true = rw (not_number (number t) is_true) refl
 
 -- `trial` refuses any parts with a value of `--turns` that is no number
 trial_refuses : (ps ts : List Text) → is_refused (Some (record { positionals = ps; turns = ts })) ≡ true →
     trial_of ps ts ≡ None
-trial_refuses ps [] h = cc
-trial_refuses [] (t ∷ ts) h = refl
-trial_refuses (a ∷ []) (t ∷ ts) h = refl
-trial_refuses (a ∷ b ∷ ps) (t ∷ ts) h = refl
+trial_refuses ps [] is_true = cc
+trial_refuses [] (t ∷ ts) is_true = refl
+trial_refuses (a ∷ []) (t ∷ ts) is_true = refl
+trial_refuses (a ∷ b ∷ ps) (t ∷ ts) is_true = refl
 
 -- `hyper` refuses any parts with a value of `--turns` that is no number
 hyper_refuses : (ps ts : List Text) → is_refused (Some (record { positionals = ps; turns = ts })) ≡ true →
     hyper_of ps ts ≡ None
-hyper_refuses ps [] h = cc
-hyper_refuses ps (t ∷ ts) h = refl
+hyper_refuses ps [] is_true = cc
+hyper_refuses ps (t ∷ ts) is_true = refl
 
 -- Each form of the command line refuses a value of `--turns` that is no number: one proof for each form, in the order of the
 -- list.
@@ -419,8 +426,8 @@ NotAmong (f ∷ fs) w = (w ≡ f.0 → ⊥) × NotAmong fs w
 other_name : (f : Form) (fs : List Form) (w : Text) (p : Parts) (b : Bool) → bytes_eq f.0 w ≡ b → (w ≡ f.0 → ⊥) →
     command_named fs w p ≡ None →
     command_named (f ∷ fs) w p ≡ None
-other_name f fs w p true e off rest = absurd (off (sym ((bytes_eq-Decides f.0 w).0 e)))
-other_name f fs w p false e off rest = rw e rest
+other_name f fs w p true is off rest = absurd (off (sym ((bytes_eq-Decides f.0 w).0 is)))
+other_name f fs w p false is off rest = rw is rest
 
 -- a name that is none of the forms' is no command
 pub no_such_form : (fs : List Form) (w : Text) (p : Parts) → NotAmong fs w → command_named fs w p ≡ None

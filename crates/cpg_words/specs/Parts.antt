@@ -46,15 +46,16 @@ is_turns w = bytes_eq (codes "--turns") (before_first is_equals w)
 abbrev pub value_in : Text → Option Text
 value_in w = if list_any is_equals w then Some (after_first is_equals w) else None
 
--- The parts of an option w and the words after it; None if it isn't `--turns`, the only option. If its value follows a `=`,
--- the words after it are read by themselves (`others`). Otherwise its value is the next word (`value_first`).
+-- The parts of an option w and the words after it. If w has a `=`, its value follows that, and the words after it are
+-- read by themselves (`others`). Otherwise its value is the next word (`value_first`). It is None if w isn't `--turns`,
+-- the only option, and if the words after it have no parts.
 abbrev pub with_option : Text → Option Parts → Option Parts → Option Parts
 with_option w others value_first =
     if is_turns w then (elim (value_in w) [ Some v ↦ with_turns v others | None ↦ value_first ]) else None
 
--- The parts of a list of words, or None if an option isn't `--turns`, or `--turns` lacks its value. The flag is true if
--- `--turns` comes right before the list: then the first word is its value, whatever it is. The first `--` that isn't a
--- value ends the options; each word after it is a positional.
+-- The parts of a list of words. The flag is true if `--turns` comes right before the list: then the first word is its
+-- value, whatever it is. The first `--` that isn't a value ends the options; each word after it is a positional. It is
+-- None if an option before that `--` isn't `--turns`, or if a `--turns` before it lacks its value.
 abbrev pub parts_from : Bool → List Text → Option Parts
 parts_from true [] = None
 parts_from false [] = Some (record { positionals = []; turns = [] })

@@ -1,5 +1,6 @@
-//! The form of each command. Each function here takes the positionals (`words`) and the values of `--turns` (`turns`), and
-//! returns the command, or the error `Bad` if they aren't exactly those that it has. `OutOfMemory` may come in place of either.
+//! The form of each command. A command's function takes the positionals (`words`) and the values of `--turns`
+//! (`turns`), and returns the command, or the error `Bad` if they aren't exactly those that it has. `OutOfMemory` may
+//! come in place of either.
 ghost use Rattle.std.specs.Prelude.{◌≡◌, IfOk, Err, Some, None};
 ghost use Rattle.cpg_words.specs.Answers.{Answers};
 ghost use Rattle.cpg_words.specs.Parts.{texts};

@@ -2,6 +2,6 @@
 use Rattle.cpg_check.proofs.OneVerdict.{have_one_verdict}
 use Rattle.cpg_check.proofs.tables_have_one_verdict.Goals as goal
 
--- the lemma of proofs/OneVerdict.antt
+-- any two answers that the contract of a check allows are the same (`have_one_verdict`)
 pub returns : goal.returns
 returns c = have_one_verdict

@@ -11,22 +11,24 @@ use Rattle.cpg_all_runs.proofs.examples.examples.Goals.{then-firsts-at+in_ok-cop
 -- which is among the examples already
 pub loop-at-preserved : goal.loop-at-preserved
 loop-at-preserved c g all alike =
-    let list = c.args.scenarios.now in
+    let scenarios = c.args.scenarios.now in
     let at = c.loop-at.at in
     let within = c.loop-at-test.true in
     let shown = c.loop-at.invariant g all alike in
     elim c.if-firsts-at.branch [
       -- the scenario is the first with its active numbers, and is added
-      | then-firsts-at+in_ok-copy+in_ok-push w ↦
-          let s = w.index-scenarios-at.result in
-          rw w.list-is
-          (examples_more g at list c.loop-at.list.items shown within w.push.new.self.items s
-          (w.index-scenarios-at.is ∙ get_or_default list at s (zero_scenario g) within)
-          (all.lawful s (at, within, sym w.index-scenarios-at.is)) (◌∙◌ {A = List Scenario} w.in_ok-push.ensures.items
-          (ap (λ (r : Scenario). c.loop-at.list.items ++ r ∷ []) w.in_ok-copy.ensures)))
+      | then-firsts-at+in_ok-copy+in_ok-push added ↦
+          let scenario = added.index-scenarios-at.result in
+          rw added.list-is
+          (examples_more g at scenarios c.loop-at.list.items shown within added.push.new.self.items scenario
+          (added.index-scenarios-at.is ∙ get_or_default scenarios at scenario (zero_scenario g) within)
+          (all.lawful scenario (at, within, sym added.index-scenarios-at.is))
+          (◌∙◌ {A = List Scenario} added.in_ok-push.ensures.items
+          (ap (λ (r : Scenario). c.loop-at.list.items ++ r ∷ []) added.in_ok-copy.ensures)))
       -- an earlier one has them, and shows it
-      | else-firsts-at w ↦ rw w.list-is
-          (examples_kept g at list c.loop-at.list.items shown within c.args.firsts.now alike w.if-firsts-at.false)
+      | else-firsts-at kept ↦ rw kept.list-is
+          (examples_kept g at scenarios c.loop-at.list.items shown within c.args.firsts.now alike
+          kept.if-firsts-at.false)
     ]
 
 -- after the loop all scenarios are shown, so the list shows all runs

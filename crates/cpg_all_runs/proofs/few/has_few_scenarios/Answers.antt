@@ -19,11 +19,11 @@ returns-then-conditions-gt-MOST_DOUBLINGS c = (
 -- with at most 14 conditions the number of scenarios fits in 64 bits
 pub overflow_mul-result : goal.overflow_mul-result
 overflow_mul-result c =
-    let a = all_fit c.conditions-conditions.result (length c.processes.result.now) c.faults.result
+    let product_fits = all_fit c.conditions-conditions.result (length c.processes.result.now) c.faults.result
     (omega (arith, c.if-conditions-gt-MOST_DOUBLINGS.false))
     (omega (arith, ap length c.processes.ensures.processes, c.processes.ensures.within.processes))
     (omega (arith, c.faults.ensures.faults, c.faults.ensures.within.faults)) in
-    omega (arith, a, ap₂ ◌*◌ c.pow.ensures c.ways-ways.ensures)
+    omega (arith, product_fits, ap₂ ◌*◌ c.pow.ensures c.ways-ways.ensures)
 
 -- the product of the outcomes and of the ways to place faults is the number of scenarios, so the comparison tells
 pub returns : goal.returns

@@ -13,11 +13,11 @@ use Rattle.cpg_all_runs.proofs.freezing.add_frozen_of.Goals as goal
 -- others: filters of lists behind each other
 one_more : (f : ℕ → Bool) (before items : List ℕ) (first i x : ℕ) → i < length items → x ≡ get_or items i 0 →
     (before ++ filter f (first ∷ take i items)) ++ filter f (x ∷ []) ≡ before ++ filter f (first ∷ take (i + 1) items)
-one_more f before items first i x l is =
+one_more f before items first i x inside is =
     append_assoc before (filter f (first ∷ take i items)) (filter f (x ∷ []))
     ∙ ap (λ ys. before ++ ys) (sym (filter-append f (first ∷ take i items) (x ∷ []))
     ∙ ap (λ y. filter f (first ∷ (take i items ++ y ∷ []))) is ∙
-    ap (λ ys. filter f (first ∷ ys)) (sym (take_more items i 0 l)))
+    ap (λ ys. filter f (first ∷ ys)) (sym (take_more items i 0 inside)))
 
 -- what a process sends is an item of the graph
 pub add_if_frozen-requires-in-loop-item : goal.add_if_frozen-requires-in-loop-item
@@ -33,8 +33,8 @@ loop-item-preserved c =
     let g = c.args.problem.now in
     let i = c.loop-item.item-index in
     let x = get_or c.queue-item-items.result.now i 0 in
-    let l : i < length (queue_of g c.args.process) =
+    let inside : i < length (queue_of g c.args.process) =
     omega (arith, ap length c.queue-item-items.ensures, c.loop-item-test.true) in
     c.in_ok-add_if_frozen-2.ensures ∙ ap (λ xs. xs ++ filter (is_frozen g) (x ∷ [])) c.loop-item.invariant
-    ∙ one_more (is_frozen g) c.args.items.now.items (queue_of g c.args.process) c.args.process i x l
+    ∙ one_more (is_frozen g) c.args.items.now.items (queue_of g c.args.process) c.args.process i x inside
     (ap (λ xs. get_or xs i 0) c.queue-item-items.ensures)

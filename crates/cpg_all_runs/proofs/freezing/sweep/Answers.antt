@@ -107,27 +107,28 @@ loop-item-preserved c =
     let g = c.args.setting.now.problem.now in
     let order = c.args.setting.now.order.now in
     let items = c.args.items.now in
-    let n = c.loop-item.item-index in
-    let x = get_or items n 0 in
+    let item_index = c.loop-item.item-index in
+    let x = get_or items item_index 0 in
     -- the item's process is at the place that has been reached
     let place_is : place_of_item g order x ≡ c.place-next.result =
     sym (c.place-next.ensures.place ∙ ap (place order) (c.producer.ensures.producer)) in
     let settled = c.loop-item.invariant.settled in
     -- what is settled, what was found before the place, and which items come no earlier
     record {
-      settled = settled_more g order c.requires.setting.topological items n c.loop-item.frozen settled
+      settled = settled_more g order c.requires.setting.topological items item_index c.loop-item.frozen settled
           c.requires.setting.admitted.1.limits c.loop-item-test.true
           c.settle.new.frozen c.in_ok-settle.ensures.item c.in_ok-settle.ensures.others c.in_ok-settle.ensures.count;
       along = along_kept g order c.loop-item.frozen c.place-next.result c.args.scenarios.now
           c.requires.setting.topological c.settle.new.frozen x c.advance.new.found.items place_is
           c.in_ok-settle.ensures.others c.in_ok-advance.ensures;
       ahead = λ j l k.
-          let within = (item_frozen g order c.requires.setting.topological items n c.loop-item.frozen settled j k).0 in
+          let within = (item_frozen g order c.requires.setting.topological items item_index c.loop-item.frozen settled j
+          k).0 in
           omega (
             arith,
             place_is,
             later_place g order x (get_or items j 0) within
-                (later_moment g order c.requires.setting.topological items settled.all n j (omega arith) k),
+                (later_moment g order c.requires.setting.topological items settled.all item_index j (omega arith) k),
           );
     }
 
@@ -148,6 +149,6 @@ returns-clause-early c =
 -- the examples are scenarios of the graph
 pub advance-requires-clause-scenarios : goal.advance-requires-clause-scenarios
 advance-requires-clause-scenarios c =
-    let list = c.args.scenarios.now in
-    All-weaker (Contains list) (IsScenario c.args.setting.now.problem.now) c.requires.scenarios.lawful list
-    (All-contains_itself list)
+    let scenarios = c.args.scenarios.now in
+    All-weaker (Contains scenarios) (IsScenario c.args.setting.now.problem.now) c.requires.scenarios.lawful scenarios
+    (All-contains_itself scenarios)

@@ -28,15 +28,15 @@ pub returns : goal.returns
 returns c = λ order frozen topological are.
     let g = c.args.admitted.now.graph in
     let urgency = c.args.admitted.now.order in
-    let list = c.args.scenarios.now in
+    let scenarios = c.args.scenarios.now in
     let runs = c.args.runs.now in
     let numbers = c.in_ok-numbers.numbers.items in
     let at = c.first_greatest-at.result in
     -- the place as the search found it, said of the graph, its urgency order and the list of finishes
-    let is_first : IsFirstGreatest g urgency (length list) list numbers at =
-    subst (λ ns. IsFirstGreatest g urgency (length list) list ns at) c.as_slice.ensures.value
-    (subst (λ u. IsFirstGreatest g u (length list) list c.as_slice.result.now at) c.order.ensures.order
-    (subst (λ h. IsFirstGreatest h c.order.result.now (length list) list c.as_slice.result.now at)
+    let is_first : IsFirstGreatest g urgency (length scenarios) scenarios numbers at =
+    subst (λ ns. IsFirstGreatest g urgency (length scenarios) scenarios ns at) c.as_slice.ensures.value
+    (subst (λ u. IsFirstGreatest g u (length scenarios) scenarios c.as_slice.result.now at) c.order.ensures.order
+    (subst (λ h. IsFirstGreatest h c.order.result.now (length scenarios) scenarios c.as_slice.result.now at)
     c.problem.ensures.problem c.first_greatest-at.ensures)) in
     -- the run at that place, and the process that ends last in it
     let t = c.index-runs-at.result in
@@ -46,10 +46,10 @@ returns c = λ order frozen topological are.
     subst (λ n. IsWorst g urgency order frozen n c.in_ok-scenario.scenario by)
     (sym (c.index.ensures ∙ get_or_default numbers at c.index.result.now 0
     (omega (arith, is_first.there, ap length read, length-map runs (λ u. u.finish), c.requires.count))))
-    (is_worst g order topological urgency frozen list c.requires.scenarios runs are numbers at is_first
+    (is_worst g order topological urgency frozen scenarios c.requires.scenarios runs are numbers at is_first
     c.in_ok-scenario.scenario t
     (λ d. c.in_ok-scenario.ensures ∙ c.index-scenarios-at.is
-    ∙ get_or_default list at c.index-scenarios-at.result d is_first.there)
+    ∙ get_or_default scenarios at c.index-scenarios-at.result d is_first.there)
     (λ d. c.index-runs-at.is ∙ get_or_default runs at t d (omega (arith, is_first.there, c.requires.count)))
     by read
     (subst (λ n. IfSome by (λ p. IsFirstEnding t n p)) c.finish.ensures c.first_ending-process.ensures.found)

@@ -13,20 +13,20 @@ use Rattle.cpg_all_runs.proofs.placing.first_alike.Goals as goal
 pub loop-at-preserved : goal.loop-at-preserved
 loop-at-preserved c =
     let g = c.args.admitted.now.graph in
-    let list = c.args.scenarios.now in
+    let scenarios = c.args.scenarios.now in
     let at = c.loop-at.at in
-    let s = c.index-scenarios-at.result in
+    let scenario = c.index-scenarios-at.result in
     let numbers = c.in_ok-numbers.numbers in
     -- the active numbers of the scenario at this place
-    let is : numbers.items ≡ numbers_at g list at =
-    c.in_ok-numbers.ensures ∙ ap (λ (h : Graph). active_numbers h s) c.problem-problem.ensures.problem
+    let is : numbers.items ≡ numbers_at g scenarios at =
+    c.in_ok-numbers.ensures ∙ ap (λ (h : Graph). active_numbers h scenario) c.problem-problem.ensures.problem
     ∙ ap (active_numbers g)
-    (c.index-scenarios-at.is ∙ get_or_default list at s (zero_scenario g) c.loop-at-test.true) in
+    (c.index-scenarios-at.is ∙ get_or_default scenarios at scenario (zero_scenario g) c.loop-at-test.true) in
     -- the map has the first places of one place more, and so has the list
     record {
-      places = places_more (numbers_at g list) at c.loop-at.places.entries c.kept_place.new.places.entries numbers
+      places = places_more (numbers_at g scenarios) at c.loop-at.places.entries c.kept_place.new.places.entries numbers
           c.in_ok-kept_place.field-0 c.loop-at.invariant.places is c.in_ok-kept_place.ensures;
-      firsts = firsts_more (numbers_at g list) at c.loop-at.places.entries c.kept_place.new.places.entries numbers
+      firsts = firsts_more (numbers_at g scenarios) at c.loop-at.places.entries c.kept_place.new.places.entries numbers
           c.in_ok-kept_place.field-0 c.loop-at.invariant.places is c.in_ok-kept_place.ensures
           c.loop-at.firsts.items c.push.new.self.items c.loop-at.invariant.firsts c.in_ok-push.ensures.items;
     }
@@ -36,13 +36,13 @@ loop-at-preserved c =
 pub returns : goal.returns
 returns c =
     let g = c.args.admitted.now.graph in
-    let list = c.args.scenarios.now in
+    let scenarios = c.args.scenarios.now in
     let firsts = c.loop-at.firsts.items in
-    let end : c.loop-at.at ≡ length list = omega (arith, c.loop-at-test.false, c.loop-at.auto.at-end) in
-    let places : AreFirstPlaces (numbers_at g list) (length list) firsts =
-    subst (λ n. AreFirstPlaces (numbers_at g list) n firsts) end c.loop-at.invariant.firsts in
+    let end : c.loop-at.at ≡ length scenarios = omega (arith, c.loop-at-test.false, c.loop-at.auto.at-end) in
+    let places : AreFirstPlaces (numbers_at g scenarios) (length scenarios) firsts =
+    subst (λ n. AreFirstPlaces (numbers_at g scenarios) n firsts) end c.loop-at.invariant.firsts in
     record {
       places = places;
       runs = λ i l. same_runs g c.args.admitted.now.order c.problem-problem.ensures.admitted.urgency
-          c.problem-problem.ensures.admitted.topological _ (scenario_at g list i) (places.same i l);
+          c.problem-problem.ensures.admitted.topological _ (scenario_at g scenarios i) (places.same i l);
     }

@@ -12,10 +12,10 @@ returns-then-first-at c s =
     let g = c.args.setting.now.problem.now in
     let order = c.args.setting.now.order.now in
     let frozen = c.args.frozen.now in
-    let list = c.args.scenarios.now in
+    let scenarios = c.args.scenarios.now in
     let t = c.index-runs-first.result in
-    let run = subst (IsRun g order frozen (scenario_at g list c.args.first)) (sym c.index-runs-first.is)
+    let run = subst (IsRun g order frozen (scenario_at g scenarios c.args.first)) (sym c.index-runs-first.is)
     (c.requires.runs.each c.args.first (zero_scenario g) t c.if-first-at.true) in
-    subst (IsRun g order frozen (get_or list c.args.at s)) (sym c.in_ok-run.ensures)
-    (subst (λ z. IsRun g order frozen z t) (get_or_default list c.args.at (zero_scenario g) s c.requires.at)
+    subst (IsRun g order frozen (get_or scenarios c.args.at s)) (sym c.in_ok-run.ensures)
+    (subst (λ z. IsRun g order frozen z t) (get_or_default scenarios c.args.at (zero_scenario g) s c.requires.at)
     (c.requires.first.onward order frozen t c.requires.setting.topological run))

@@ -29,8 +29,8 @@ loop-next-preserved c =
           (takes_it c.args.problem.now c.args.urgency.now c.loop-next.next list c.args.numbers.now c.loop-next.at
           c.loop-next.invariant
           (elim (cases_lt (get_or c.args.numbers.now c.loop-next.next 0) (get_or c.args.numbers.now c.loop-next.at 0)) [
-            | inl l ↦ absurd (both_ways c.goes_first.result (c.goes_first.ensures.below l) w.if-goes_first.true)
-            | inr k ↦ k
+            | inl less ↦ absurd (both_ways c.goes_first.result (c.goes_first.ensures.below less) w.if-goes_first.true)
+            | inr not_less ↦ not_less
           ])
           (λ e d. ap₂ (is_before c.args.problem.now c.args.urgency.now) (at_next d) (at_at d)
           ∙ sym (c.goes_first.ensures.level e) ∙ w.if-goes_first.true))
@@ -39,8 +39,8 @@ loop-next-preserved c =
           (skips_it c.args.problem.now c.args.urgency.now c.loop-next.next list c.args.numbers.now c.loop-next.at
           c.loop-next.invariant
           (elim (cases_lt (get_or c.args.numbers.now c.loop-next.at 0) (get_or c.args.numbers.now c.loop-next.next 0)) [
-            | inl l ↦ absurd (both_ways c.goes_first.result w.if-goes_first.false (c.goes_first.ensures.above l))
-            | inr k ↦ k
+            | inl less ↦ absurd (both_ways c.goes_first.result w.if-goes_first.false (c.goes_first.ensures.above less))
+            | inr not_less ↦ not_less
           ])
           (λ e d. ap₂ (is_before c.args.problem.now c.args.urgency.now) (at_next d) (at_at d)
           ∙ sym (c.goes_first.ensures.level e) ∙ w.if-goes_first.false))

@@ -13,13 +13,13 @@ use Rattle.cpg_app.proofs.heads.head_is_lawful.Goals as goal
 -- the head is within its limits, and the names of its nodes and processes are names
 pub returns : goal.returns
 returns c =
-    let g = c.args.graph.now in
-    let named : All (λ (p : Process). IsName p.name) g.processes =
+    let graph = c.args.graph.now in
+    let named : All (λ (p : Process). IsName p.name) graph.processes =
     subst (All (λ (p : Process). IsName p.name)) c.processes.ensures.processes c.processes_are_named.ensures in
     record {
-      within = head_within g c.nodes.ensures.within;
+      within = head_within graph c.nodes.ensures.within;
       nodes = subst (All IsName) c.nodes.ensures.nodes c.nodes_are_named.ensures;
-      processes = All-map (λ p. IsName p.name) (head_process g) (numbers_below (process_count g))
-          (All-below (λ p. IsName (process_at g p).name) (process_count g)
-          (λ p l. All-get_or (λ (q : Process). IsName q.name) g.processes p _ l named));
+      processes = All-map (λ p. IsName p.name) (head_process graph) (numbers_below (process_count graph))
+          (All-below (λ p. IsName (process_at graph p).name) (process_count graph)
+          (λ p l. All-get_or (λ (q : Process). IsName q.name) graph.processes p _ l named));
     }

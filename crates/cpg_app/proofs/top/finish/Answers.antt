@@ -61,7 +61,7 @@ put_pack-requires g c =
 pub returns-in-Ok-Lines-clause-lawful : goal.returns-in-Ok-Lines-clause-lawful
 returns-in-Ok-Lines-clause-lawful g c words start at =
     -- the run, as it ends
-    let r : Ran = record {
+    let ran : Ran = record {
       words = words;
       shelf = seen start (g.S.Shelf.state c.args.shelf.now);
       out = sent (g.O.Sink.state c.args.out.now) (g.O.Sink.state c.put.new.out);
@@ -69,20 +69,20 @@ returns-in-Ok-Lines-clause-lawful g c words start at =
       status = c.end.result;
     } in
     -- its words are the command, whose files were read, and the output answers it
-    let has : Has r at.command at.has.values = record { words = at.words; reads = at.has.reads } in
+    let has : Has ran at.command at.has.values = record { words = at.words; reads = at.has.reads } in
     let puts = text_of at.command at.has.values (Lines c.in-Ok-Lines.text) tt
     (subst (Answers at.command at.has.values) c.in-Ok-Lines.field-0-is
     (c.in-Ok-Lines.ensures.output at.command at.has.values at.has.are)) in
-    let prints : Prints r (string_bytes c.in-Ok-Lines.text) =
+    let prints : Prints ran (string_bytes c.in-Ok-Lines.text) =
     record { command = at.command; values = at.has.values; has = has; puts = puts } in
-    written_lawful r (string_bytes c.in-Ok-Lines.text) c.put.result prints (subst
-    (λ (bytes : List ℕ). IsWritten r.out c.put.result bytes) c.as_str.ensures.value c.put.ensures) c.end.ensures
+    written_lawful ran (string_bytes c.in-Ok-Lines.text) c.put.result prints (subst
+    (λ (bytes : List ℕ). IsWritten ran.out c.put.result bytes) c.as_str.ensures.value c.put.ensures) c.end.ensures
 
 -- the output is the text of a graph's tables, which was written or met a fault
 pub returns-in-Ok-Table-clause-lawful : goal.returns-in-Ok-Table-clause-lawful
 returns-in-Ok-Table-clause-lawful g c words start at =
     -- the run, as it ends
-    let r : Ran = record {
+    let ran : Ran = record {
       words = words;
       shelf = seen start (g.S.Shelf.state c.args.shelf.now);
       out = sent (g.O.Sink.state c.args.out.now) (g.O.Sink.state c.put_tables.new.out);
@@ -90,20 +90,20 @@ returns-in-Ok-Table-clause-lawful g c words start at =
       status = c.end-in-Ok-Table.result;
     } in
     -- its words are the command, whose files were read, and the output answers it
-    let has : Has r at.command at.has.values = record { words = at.words; reads = at.has.reads } in
+    let has : Has ran at.command at.has.values = record { words = at.words; reads = at.has.reads } in
     let puts = text_of at.command at.has.values (Shown c.in-Ok-Table.made) tt
     (subst (Answers at.command at.has.values) c.in-Ok-Table.field-0-is
     (c.in-Ok-Table.ensures.output at.command at.has.values at.has.are)) in
-    let prints : Prints r (shown_by c.in-Ok-Table.made.admitted.graph c.in-Ok-Table.made.rows) =
+    let prints : Prints ran (shown_by c.in-Ok-Table.made.admitted.graph c.in-Ok-Table.made.rows) =
     record { command = at.command; values = at.has.values; has = has; puts = puts } in
-    written_lawful r (shown_by c.in-Ok-Table.made.admitted.graph c.in-Ok-Table.made.rows) c.put_tables.result prints
+    written_lawful ran (shown_by c.in-Ok-Table.made.admitted.graph c.in-Ok-Table.made.rows) c.put_tables.result prints
     (c.put_tables.ensures) c.end-in-Ok-Table.ensures
 
 -- the output is the text of a node's table, which was written or met a fault
 pub returns-in-Ok-NodeTable-clause-lawful : goal.returns-in-Ok-NodeTable-clause-lawful
 returns-in-Ok-NodeTable-clause-lawful g c words start at =
     -- the run, as it ends
-    let r : Ran = record {
+    let ran : Ran = record {
       words = words;
       shelf = seen start (g.S.Shelf.state c.args.shelf.now);
       out = sent (g.O.Sink.state c.args.out.now) (g.O.Sink.state c.put_node_table.new.out);
@@ -111,20 +111,20 @@ returns-in-Ok-NodeTable-clause-lawful g c words start at =
       status = c.end-in-Ok-NodeTable.result;
     } in
     -- its words are the command, whose files were read, and the output answers it
-    let has : Has r at.command at.has.values = record { words = at.words; reads = at.has.reads } in
+    let has : Has ran at.command at.has.values = record { words = at.words; reads = at.has.reads } in
     let puts = text_of at.command at.has.values (OfNode c.in-Ok-NodeTable.tables c.in-Ok-NodeTable.node) tt
     (subst (Answers at.command at.has.values) c.in-Ok-NodeTable.field-0-is
     (c.in-Ok-NodeTable.ensures.output at.command at.has.values at.has.are)) in
-    let prints : Prints r (node_text c.in-Ok-NodeTable.tables c.in-Ok-NodeTable.node) =
+    let prints : Prints ran (node_text c.in-Ok-NodeTable.tables c.in-Ok-NodeTable.node) =
     record { command = at.command; values = at.has.values; has = has; puts = puts.1 } in
-    written_lawful r (node_text c.in-Ok-NodeTable.tables c.in-Ok-NodeTable.node) c.put_node_table.result prints
+    written_lawful ran (node_text c.in-Ok-NodeTable.tables c.in-Ok-NodeTable.node) c.put_node_table.result prints
     c.put_node_table.ensures c.end-in-Ok-NodeTable.ensures
 
 -- the output is a pack, which was written or met a fault
 pub returns-in-Ok-Pack-clause-lawful : goal.returns-in-Ok-Pack-clause-lawful
 returns-in-Ok-Pack-clause-lawful g c words start at =
     -- the run, as it ends
-    let r : Ran = record {
+    let ran : Ran = record {
       words = words;
       shelf = seen start (g.S.Shelf.state c.args.shelf.now);
       out = sent (g.O.Sink.state c.args.out.now) (g.O.Sink.state c.put_pack.new.out);
@@ -132,20 +132,20 @@ returns-in-Ok-Pack-clause-lawful g c words start at =
       status = c.end-in-Ok-Pack.result;
     } in
     -- its words are the command, whose files were read, and the output answers it
-    let has : Has r at.command at.has.values = record { words = at.words; reads = at.has.reads } in
+    let has : Has ran at.command at.has.values = record { words = at.words; reads = at.has.reads } in
     let puts = text_of at.command at.has.values (Pack c.in-Ok-Pack.made) tt
     (subst (Answers at.command at.has.values) c.in-Ok-Pack.field-0-is
     (c.in-Ok-Pack.ensures.output at.command at.has.values at.has.are)) in
-    let prints : Prints r (packed_by c.in-Ok-Pack.made.admitted.graph c.in-Ok-Pack.made.rows) =
+    let prints : Prints ran (packed_by c.in-Ok-Pack.made.admitted.graph c.in-Ok-Pack.made.rows) =
     record { command = at.command; values = at.has.values; has = has; puts = puts.1 } in
-    written_lawful r (packed_by c.in-Ok-Pack.made.admitted.graph c.in-Ok-Pack.made.rows) c.put_pack.result prints
+    written_lawful ran (packed_by c.in-Ok-Pack.made.admitted.graph c.in-Ok-Pack.made.rows) c.put_pack.result prints
     c.put_pack.ensures c.end-in-Ok-Pack.ensures
 
 -- the node followed its stream, to the close or not, so the run ends lawfully
 pub returns-in-Ok-Stream-clause-lawful : goal.returns-in-Ok-Stream-clause-lawful
 returns-in-Ok-Stream-clause-lawful g c words start at =
     -- the run, as it ends
-    let r : Ran = record {
+    let ran : Ran = record {
       words = words;
       shelf = seen start (g.S.Shelf.state c.follow.new.shelf);
       out = sent (g.O.Sink.state c.args.out.now) (g.O.Sink.state c.follow.new.out);
@@ -155,7 +155,7 @@ returns-in-Ok-Stream-clause-lawful g c words start at =
     let live = live_of at.command at.has.values c.in-Ok-Stream.follower c.in-Ok-Stream.stream
     (subst (Answers at.command at.has.values) c.in-Ok-Stream.field-0-is
     (c.in-Ok-Stream.ensures.output at.command at.has.values at.has.are)) in
-    followed_lawful r at.command at.has.values c.in-Ok-Stream.follower c.in-Ok-Stream.stream
+    followed_lawful ran at.command at.has.values c.in-Ok-Stream.follower c.in-Ok-Stream.stream
     (g.S.Shelf.state c.args.shelf.now).history at.words at.has.reads live
     (rw c.as_str-in-Ok-Stream.ensures at c.follow.ensures.followed)
 
@@ -163,7 +163,7 @@ returns-in-Ok-Stream-clause-lawful g c words start at =
 pub returns-in-Err-clause-lawful : goal.returns-in-Err-clause-lawful
 returns-in-Err-clause-lawful g c words start at =
     -- the run, as it ends
-    let r : Ran = record {
+    let ran : Ran = record {
       words = words;
       shelf = seen start (g.S.Shelf.state c.args.shelf.now);
       out = sent (g.O.Sink.state c.args.out.now) (g.O.Sink.state c.args.out.now);
@@ -171,8 +171,8 @@ returns-in-Err-clause-lawful g c words start at =
       status = c.stop.result;
     } in
     -- its words are the command, whose files were read, and the output answers it
-    let has : Has r at.command at.has.values = record { words = at.words; reads = at.has.reads } in
-    stopped_lawful r c.in-Err.halt
+    let has : Has ran at.command at.has.values = record { words = at.words; reads = at.has.reads } in
+    stopped_lawful ran c.in-Err.halt
     (inr (inr (record { command = at.command; values = at.has.values; has = has; stops = c.in-Err.ensures.halt at.command at.has.values at.has.are })))
     (record { faultless = refl; taken = refl }) c.stop.ensures
 

@@ -49,28 +49,28 @@ returns-in-Ok-read_inputs-clause-lawful g c =
 -- a file stopped the run, and the line that says so was written or met a fault
 pub returns-in-Err-read_inputs-clause-lawful : goal.returns-in-Err-read_inputs-clause-lawful
 returns-in-Err-read_inputs-clause-lawful g c =
-    let r : Ran = record {
+    let ran : Ran = record {
       words = map string_bytes c.args.words.now;
       shelf = seen (g.S.Shelf.state c.args.shelf.now) (g.S.Shelf.state c.read_inputs.new.shelf);
       out = sent (g.O.Sink.state c.args.out.now) (g.O.Sink.state c.args.out.now);
       err = sent (g.E.Sink.state c.args.err.now) (g.E.Sink.state c.stop.new.err);
       status = c.stop.result;
     } in
-    stopped_lawful r c.in-Err-read_inputs.halt
+    stopped_lawful ran c.in-Err-read_inputs.halt
     (inr (inl (record { command = c.in-Ok.command; words = c.in-Ok.ensures.command; stops = c.in-Err-read_inputs.ensures.inputs })))
     (record { faultless = refl; taken = refl }) c.stop.ensures
 
 -- the words form no command, or memory ran out, and the line that says so was written or met a fault
 pub returns-in-Err-clause-lawful : goal.returns-in-Err-clause-lawful
 returns-in-Err-clause-lawful g c =
-    let r : Ran = record {
+    let ran : Ran = record {
       words = map string_bytes c.args.words.now;
       shelf = seen (g.S.Shelf.state c.args.shelf.now) (g.S.Shelf.state c.args.shelf.now);
       out = sent (g.O.Sink.state c.args.out.now) (g.O.Sink.state c.args.out.now);
       err = sent (g.E.Sink.state c.args.err.now) (g.E.Sink.state c.run_without_words.new.err);
       status = c.run_without_words.result;
     } in
-    wordless_lawful r c.in-Err.fault (λ e. search rules) refl
+    wordless_lawful ran c.in-Err.fault (λ e. search rules) refl
     (record { faultless = refl; taken = refl }) c.run_without_words.ensures
 
 -- what reading keeps of the shelf, the work keeps too

@@ -13,10 +13,10 @@ use Rattle.cpg_app.proofs.trial_figures.are_valid.Goals as goal
 -- answer.
 pub returns : goal.returns
 returns c =
-    let g = c.args.admitted.now.graph in
-    let t = c.args.tables.now in
-    let Says : Bool → Type 0 = λ found. IsTrue found ↔ (IsHeadFor g t.head × IsValid g t.nodes) in
-    let whole = verdict_is g c.args.admitted.now.order t c.in_ok-check.field-0 c.head-head.ensures.lawful
+    let graph = c.args.admitted.now.graph in
+    let tables = c.args.tables.now in
+    let Says : Bool → Type 0 = λ found. IsTrue found ↔ (IsHeadFor graph tables.head × IsValid graph tables.nodes) in
+    let whole = verdict_is graph c.args.admitted.now.order tables c.in_ok-check.field-0 c.head-head.ensures.lawful
     c.in_ok-check.ensures in
     elim c.match-branch-2.branch [
       | in-Yes w ↦ subst (λ (r : Result Bool OutOfMemory). IfOk r Says) (sym w.result-is)

@@ -8,6 +8,6 @@ use Rattle.cpg_app.proofs.trial_plays.all_true.Goals as goal
 -- all values true and two faults are a scenario of the graph
 pub ending_of-requires-clause-scenario : goal.ending_of-requires-clause-scenario
 ending_of-requires-clause-scenario c =
-    let g = c.args.admitted.now.graph in
-    subst (IsScenario g) (sym (rw c.problem.ensures.problem at c.in_ok-scenario.ensures))
-    (true_lawful g c.requires.processes c.requires.faults)
+    let graph = c.args.admitted.now.graph in
+    subst (IsScenario graph) (sym (rw c.problem.ensures.problem at c.in_ok-scenario.ensures))
+    (true_lawful graph c.requires.processes c.requires.faults)

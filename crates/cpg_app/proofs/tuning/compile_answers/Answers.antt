@@ -10,11 +10,12 @@ use Rattle.cpg_app.proofs.tuning.compile_answers.Goals as goal
 -- one more number of faults has its answer
 pub loop-faults-preserved : goal.loop-faults-preserved
 loop-faults-preserved c =
-    let g : Graph = c.args.admitted.graph in
+    let graph : Graph = c.args.admitted.graph in
     let varied = c.in_ok-varied.varied in
     let faults = c.loop-faults.faults in
     -- the varied graph is the graph with this fault number
-    let is : varied.graph ≡ with_fault_number g faults = c.in_ok-varied.ensures.graph ∙ c.loop-faults.invariant.same faults in
+    let is : varied.graph ≡ with_fault_number graph faults =
+    c.in_ok-varied.ensures.graph ∙ c.loop-faults.invariant.same faults in
     -- it is admitted, and its compile gives its answer
     let judged : IsJudged varied.graph c.in_ok-compile_answer.field-0 = record {
       order = varied.order;
@@ -24,8 +25,8 @@ loop-faults-preserved c =
     } in
     record {
       same = λ k. ap (λ (h : Graph). with_fault_number h k) is;
-      answers = subst (AreAnswers IsJudged g (faults + 1)) (sym c.in_ok-push.ensures.items)
-          (answers_push IsJudged g faults c.loop-faults.answers.items c.in_ok-compile_answer.field-0
+      answers = subst (AreAnswers IsJudged graph (faults + 1)) (sym c.in_ok-push.ensures.items)
+          (answers_push IsJudged graph faults c.loop-faults.answers.items c.in_ok-compile_answer.field-0
           c.loop-faults.invariant.answers
           (subst (λ (h : Graph). IsJudged h c.in_ok-compile_answer.field-0) is judged));
     }

@@ -15,13 +15,13 @@ use Rattle.cpg_app.proofs.tuning.tuned.Goals as goal
 -- the graph may be asked for with each number of faults: none of them shows a fault
 pub tune-requires : goal.tune-requires
 tune-requires c =
-    let a = c.args.admitted.now in
+    let admitted = c.args.admitted.now in
     subst (MayAskRows ShowsNoFault) (sym c.problem.ensures.problem)
-    (λ faults few. tuned_no_fault a.graph a.order a.guards c.problem.ensures.admitted faults)
+    (λ faults few. tuned_no_fault admitted.graph admitted.order admitted.guards c.problem.ensures.admitted faults)
 
 -- if a row names an item, the graph has it
 pub returns-clause-named : goal.returns-clause-named
 returns-clause-named c =
-    let g : Graph = c.args.admitted.now.graph in
-    if_ok {P = IsTuning IsJudged g} {Q = λ t. All (IsNamedRow g) t.rows} c.tune.result (rows_named g)
+    let graph : Graph = c.args.admitted.now.graph in
+    if_ok {P = IsTuning IsJudged graph} {Q = λ t. All (IsNamedRow graph) t.rows} c.tune.result (rows_named graph)
     (subst (λ (h : Graph). IfOk c.tune.result (IsTuning IsJudged h)) c.problem.ensures.problem c.tune.ensures.tuned)

@@ -10,12 +10,13 @@ use Rattle.cpg_app.proofs.work.judged.Goals as goal
 -- the tables are valid, and valid tables are safe
 pub returns-in-Ok-Yes-clause-safe : goal.returns-in-Ok-Yes-clause-safe
 returns-in-Ok-Yes-clause-safe c =
-    let g = c.args.admitted.graph in
-    let t = c.args.tables.now in
-    let shown : IsHeadFor g t.head × IsValid g t.nodes = rw c.in-Ok-Yes.field-0-is at c.in-Ok-Yes.ensures in
-    let shape = has_shape g c.problem-graph.ensures.admitted.limits t.nodes
-    (tables_of_graph g t.head t.nodes shown.0 c.head-head.ensures.lawful) in
+    let graph = c.args.admitted.graph in
+    let tables = c.args.tables.now in
+    let shown : IsHeadFor graph tables.head × IsValid graph tables.nodes =
+    rw c.in-Ok-Yes.field-0-is at c.in-Ok-Yes.ensures in
+    let shape = has_shape graph c.problem-graph.ensures.admitted.limits tables.nodes
+    (tables_of_graph graph tables.head tables.nodes shown.0 c.head-head.ensures.lawful) in
     record {
       head = shown.0;
-      safe = valid_are_safe g c.problem-graph.ensures.admitted.well_formed t.nodes shape shown.1;
+      safe = valid_are_safe graph c.problem-graph.ensures.admitted.well_formed tables.nodes shape shown.1;
     }

@@ -10,7 +10,8 @@ use Rattle.cpg_app.proofs.work.play.Goals as goal
 -- the tables have the head of the graph
 pub play_text-requires-clause-tables : goal.play_text-requires-clause-tables
 play_text-requires-clause-tables c =
-    let t = c.args.tables in
-    subst (λ (h : Graph). AreTablesOf (head_of h) t.nodes)
+    let tables = c.args.tables in
+    subst (λ (h : Graph). AreTablesOf (head_of h) tables.nodes)
     (sym (ap (λ (a : Admission). a.graph) c.in_ok-admitted.ensures.same))
-    (tables_of_graph c.args.admitted.graph t.head t.nodes c.in_ok-admitted.ensures.safe.head c.head-head.ensures.lawful)
+    (tables_of_graph c.args.admitted.graph tables.head tables.nodes c.in_ok-admitted.ensures.safe.head
+    c.head-head.ensures.lawful)

@@ -1,5 +1,5 @@
 -- Loops of `is_before`: returns whether the first scenario comes before the second: at the first process in the order
--- at which they differ it has fewer faults, or as many and its condition is false.
+-- at which they differ, the first has fewer faults, or as many and a false value of the process's condition.
 use Rattle.std.proofs.Common.{◌≡◌, drop}
 use Rattle.cpg_base.specs.Scenario.{is_before}
 use Rattle.cpg_base.proofs.before.is_before.Given as goal

@@ -9,7 +9,7 @@ index_mut-requires c =
     let long : length c.as_slice-process-items.result.now ≡ length c.args.processes.now.items =
     ap length c.as_slice-process-items.ensures.value in
     -- the number at this place of the order is below its length
-    let w = process_within c.args.processes.now.items c.requires c.loop-i.i (omega arith) in
+    let inside = process_within c.args.processes.now.items c.requires c.loop-i.i (omega arith) in
     rw c.as_slice-process-items.ensures.value (omega (arith, c.loop-i.invariant.long))
 
 -- the place of one more process is written down
@@ -21,6 +21,6 @@ loop-i-preserved c = rw c.as_slice-process-items.ensures.value
 -- once all are written down, the places are those of the order
 pub returns : goal.returns
 returns c = all_written c.args.processes.now.items c.requires c.loop-i.places.items
-    (let e : c.loop-i.i ≡ length c.args.processes.now.items =
+    (let all_read : c.loop-i.i ≡ length c.args.processes.now.items =
     omega (arith, ap length c.as_slice-process-items.ensures.value) in
-    subst (AreWritten c.args.processes.now.items c.loop-i.places.items) e c.loop-i.invariant)
+    subst (AreWritten c.args.processes.now.items c.loop-i.places.items) all_read c.loop-i.invariant)

@@ -13,12 +13,12 @@ use Rattle.cpg_check_heard.proofs.arrivals.add_row.Goals as goal
 -- with the next place's column, the columns tell what one place more of the row tells
 pub loop-place-preserved : goal.loop-place-preserved
 loop-place-preserved c =
-    let t = c.args.row.now in
+    let row = c.args.row.now in
     let places = c.as_slice-place-items.result.now in
     record {
       each =
           λ g known can old. c.in_ok-add_column.ensures.each g known can (c.loop-place.invariant.each g known can old);
-      told = λ g b s. row_more (is_telling_at g t.means c.args.time b t.sieved.now.columns.now s) places
+      told = λ g b s. row_more (is_telling_at g row.means c.args.time b row.sieved.now.columns.now s) places
           c.loop-place.place-index 0 c.loop-place-test.true
           (do_tell g c.args.time b c.args.arrivals.now.items s) (do_tell g c.args.time b c.loop-place.arrivals.items s)
           (do_tell g c.args.time b c.add_column.new.arrivals.items s)
@@ -29,19 +29,20 @@ loop-place-preserved c =
 -- the places have each column of the row that matches together with the cube, so they tell what the row does
 pub returns-clause-told : goal.returns-clause-told
 returns-clause-told c = λ g b s m.
-    let t = c.args.row.now in
+    let row = c.args.row.now in
     let places = c.as_slice-place-items.result.now in
     c.loop-place.invariant.told g b s ∙ ap (λ x. do_tell g c.args.time b c.args.arrivals.now.items s || x)
-    (ap (list_any (is_telling_at g t.means c.args.time b t.sieved.now.columns.now s))
+    (ap (list_any (is_telling_at g row.means c.args.time b row.sieved.now.columns.now s))
     (take_all c.loop-place.place-index places c.loop-place-test.false)
-    ∙ row_all g t.means c.args.time b t.sieved.now.columns.now places s
+    ∙ row_all g row.means c.args.time b row.sieved.now.columns.now places s
     (λ j l at.
     subst (λ xs. Contains xs j) (sym c.as_slice-place-items.ensures.value) (c.in_ok-places.ensures s j l at m)))
 
 -- even the row's first column comes too late, so the row tells nothing
 pub returns-then-not-may_have_come-clause-told : goal.returns-then-not-may_have_come-clause-told
 returns-then-not-may_have_come-clause-told c = λ g b s m.
-    let t = c.args.row.now in
+    let row = c.args.row.now in
     let told = do_tell g c.args.time b c.args.arrivals.now.items s in
-    sym (ap (λ x. told || x) (late_row (is_telling g t.means c.args.time b s) t.sieved.now.columns.now t.sieved.now.first
+    sym (ap (λ x. told || x) (late_row (is_telling g row.means c.args.time b s)
+    row.sieved.now.columns.now row.sieved.now.first
     c.requires.first (c.if-not-may_have_come.ensures g b s)) ∙ or-false told)

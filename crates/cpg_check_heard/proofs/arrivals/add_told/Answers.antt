@@ -26,20 +26,21 @@ part_of-requires-clause-cube c =
 -- with the next column's part, the cubes match where one column more tells the bound
 pub loop-arrival-preserved : goal.loop-arrival-preserved
 loop-arrival-preserved c =
-    let g = c.args.problem.now in
-    let d = c.arrival-item.result in
+    let graph = c.args.problem.now in
+    let arrival = c.arrival-item.result in
     record {
-      known = rw c.in_ok-add.ensures (known_add g c.loop-arrival.told.items c.in_ok-part.part
+      known = rw c.in_ok-add.ensures (known_add graph c.loop-arrival.told.items c.in_ok-part.part
           c.loop-arrival.invariant.known c.in_ok-part.ensures.known);
       -- the cubes match where one of the columns so far, or this one, tells the bound
-      told = λ s i. row_more (λ (a : Arrival). is_telling g a.means c.args.time c.args.bound s a.column.now)
-          c.args.arrivals.now c.loop-arrival.arrival-index d c.loop-arrival-test.true
+      told = λ s lawful. row_more (λ (a : Arrival). is_telling graph a.means c.args.time c.args.bound s a.column.now)
+          c.args.arrivals.now c.loop-arrival.arrival-index arrival c.loop-arrival-test.true
           (list_any (λ b. matches b s) c.args.told.now.items) (list_any (λ b. matches b s) c.loop-arrival.told.items)
           (list_any (λ b. matches b s) c.add.new.told.items)
-          (c.loop-arrival.invariant.told s i)
+          (c.loop-arrival.invariant.told s lawful)
           (ap (list_any (λ b. matches b s)) c.in_ok-add.ensures
-          ∙ told_add g (λ t. is_telling g d.means c.args.time c.args.bound t d.column.now) c.loop-arrival.told.items
-          c.in_ok-part.part c.in_ok-part.ensures.part s i
+          ∙ told_add graph (λ t. is_telling graph arrival.means c.args.time c.args.bound t arrival.column.now)
+          c.loop-arrival.told.items
+          c.in_ok-part.part c.in_ok-part.ensures.part s lawful
           ∙ ap (λ (a : Arrival). list_any (λ b. matches b s) c.loop-arrival.told.items
-          || is_telling g a.means c.args.time c.args.bound s a.column.now) c.arrival-item.is);
+          || is_telling graph a.means c.args.time c.args.bound s a.column.now) c.arrival-item.is);
     }

@@ -35,18 +35,19 @@ first_unheard-requires-clause-hearing c =
 -- by V1, the processes of a column's literals are active if it matches
 pub first_unheard-requires-clause-active : goal.first_unheard-requires-clause-active
 first_unheard-requires-clause-active c =
-    let g = c.args.admitted.now.graph in
+    let graph = c.args.admitted.now.graph in
     let tables = c.args.tables.now.nodes in
-    let x = c.loop-item.item in
-    let below : x < item_count g = omega (
+    let item = c.loop-item.item in
+    let below : item < item_count graph = omega (
       arith,
       c.loop-item-test.true,
       c.item_count-item-end.ensures,
       ap item_count c.problem-problem.ensures.problem,
     ) in
-    rw c.columns_of-columns.ensures.columns (All-weaker (Contains (columns_of tables x)) (HasActive g)
-    (λ d k s l law m n. literal_active g tables s law x below c.requires.rules d k m l n)
-    (columns_of tables x) (All-contains_itself (columns_of tables x)))
+    rw c.columns_of-columns.ensures.columns (All-weaker (Contains (columns_of tables item)) (HasActive graph)
+    (λ d among s l law it_matches there. literal_active graph tables s law item below c.requires.rules d
+    among it_matches l there)
+    (columns_of tables item) (All-contains_itself (columns_of tables item)))
 
 -- the columns of tables of the graph are on its variables
 pub first_unheard-requires-clause-columns : goal.first_unheard-requires-clause-columns
@@ -65,12 +66,12 @@ first_unheard-requires-clause-few c = rw c.columns_of-columns.ensures.columns
 -- no earlier item breaks V4, so the first unheard column of this one is the first violation
 pub returns-in-Some-clause-first : goal.returns-in-Some-clause-first
 returns-in-Some-clause-first c =
-    let g = c.args.admitted.now.graph in
-    let first : IsFirstColumn g c.args.admitted.now.order
-    (is_unheard g c.args.tables.now.nodes c.loop-item.item (columns_of c.args.tables.now.nodes c.loop-item.item))
+    let graph = c.args.admitted.now.graph in
+    let first : IsFirstColumn graph c.args.admitted.now.order
+    (is_unheard graph c.args.tables.now.nodes c.loop-item.item (columns_of c.args.tables.now.nodes c.loop-item.item))
     (c.in-Some.column, c.in-Some.scenario) =
     rw (← c.columns_of-columns.ensures.columns) (rw c.in-Some.is at c.in_ok-unheard.ensures.first) in
-    first_violation Rule.Heard g c.args.tables.now.nodes c.loop-item.item
+    first_violation Rule.Heard graph c.args.tables.now.nodes c.loop-item.item
     (λ y s. refl) c.number.result c.number.ensures c.args.admitted.now.order c.in-Some.column c.in-Some.scenario
     (omega (
       arith,
@@ -82,21 +83,21 @@ returns-in-Some-clause-first c =
 -- no column of the next item is unheard, so none of one item more breaks V4
 pub loop-item-preserved : goal.loop-item-preserved
 loop-item-preserved c =
-    let g = c.args.admitted.now.graph in
-    let none : (i : ℕ) (s : Scenario) → IsScenario g s → is_unheard g c.args.tables.now.nodes c.loop-item.item
+    let graph = c.args.admitted.now.graph in
+    let none : (i : ℕ) (s : Scenario) → IsScenario graph s → is_unheard graph c.args.tables.now.nodes c.loop-item.item
     (columns_of c.args.tables.now.nodes c.loop-item.item) i s ≡ false =
     rw (← c.columns_of-columns.ensures.columns) (rw c.in_default.is at c.in_ok-unheard.ensures.none) in
-    none_more Rule.Heard g c.args.tables.now.nodes c.loop-item.item (λ y s. refl) c.loop-item.invariant none
+    none_more Rule.Heard graph c.args.tables.now.nodes c.loop-item.item (λ y s. refl) c.loop-item.invariant none
 
 -- the next item is marked as sure, so none of one item more breaks V4
 pub loop-item-preserved-then-is_marked : goal.loop-item-preserved-then-is_marked
 loop-item-preserved-then-is_marked c =
-    let g = c.args.admitted.now.graph in
-    let below : c.loop-item.item < item_count g = omega (
+    let graph = c.args.admitted.now.graph in
+    let below : c.loop-item.item < item_count graph = omega (
       arith,
       c.loop-item-test.true,
       c.item_count-item-end.ensures,
       ap item_count c.problem-problem.ensures.problem,
     ) in
-    marked_more g c.args.tables.now.nodes Rule.Heard c.args.marks.now c.requires.marks c.loop-item.item below
+    marked_more graph c.args.tables.now.nodes Rule.Heard c.args.marks.now c.requires.marks c.loop-item.item below
     (sym c.if-is_marked.ensures) c.loop-item.invariant

@@ -13,40 +13,42 @@ use Rattle.cpg_check_heard.proofs.parts.add_row.Goals as goal
 -- with the next place's part, the cubes match where one place more of the row tells the bound
 pub loop-place-preserved : goal.loop-place-preserved
 loop-place-preserved c =
-    let g = c.args.problem.now in
+    let graph = c.args.problem.now in
     let places = c.as_slice-place-items.result.now in
     record {
-      known = rw c.in_ok-add.ensures (known_add g c.loop-place.told.items c.in_ok-part.part c.loop-place.invariant.known
+      known = rw c.in_ok-add.ensures
+          (known_add graph c.loop-place.told.items c.in_ok-part.part c.loop-place.invariant.known
           c.in_ok-part.ensures.known);
       -- the cubes match where one of the places so far, or this one, tells the bound
-      told = λ s i. row_more (is_telling_at g c.args.row.now.means c.args.time c.args.bound
+      told = λ s lawful. row_more (is_telling_at graph c.args.row.now.means c.args.time c.args.bound
           c.args.row.now.sieved.now.columns.now s) places c.loop-place.place-index 0 c.loop-place-test.true
           (list_any (λ b. matches b s) c.args.told.now.items) (list_any (λ b. matches b s) c.loop-place.told.items)
-          (list_any (λ b. matches b s) c.add.new.told.items) (c.loop-place.invariant.told s i)
+          (list_any (λ b. matches b s) c.add.new.told.items) (c.loop-place.invariant.told s lawful)
           (ap (list_any (λ b. matches b s)) c.in_ok-add.ensures
-          ∙ told_add g (λ t. is_telling_at g c.args.row.now.means c.args.time c.args.bound
+          ∙ told_add graph (λ t. is_telling_at graph c.args.row.now.means c.args.time c.args.bound
           c.args.row.now.sieved.now.columns.now t (get_or places c.loop-place.place-index 0))
-          c.loop-place.told.items c.in_ok-part.part c.in_ok-part.ensures.part s i);
+          c.loop-place.told.items c.in_ok-part.part c.in_ok-part.ensures.part s lawful);
     }
 
 -- the places have each column of the row that matches together with the cube, so they tell what the row does
 pub returns-clause-told : goal.returns-clause-told
 returns-clause-told c = λ s i m.
-    let g = c.args.problem.now in
+    let graph = c.args.problem.now in
     let places = c.as_slice-place-items.result.now in
     c.loop-place.invariant.told s i ∙ ap (λ t. list_any (λ b. matches b s) c.args.told.now.items || t)
-    (ap (list_any (is_telling_at g c.args.row.now.means c.args.time c.args.bound
+    (ap (list_any (is_telling_at graph c.args.row.now.means c.args.time c.args.bound
     c.args.row.now.sieved.now.columns.now s)) (take_all c.loop-place.place-index places c.loop-place-test.false)
-    ∙ row_all g c.args.row.now.means c.args.time c.args.bound c.args.row.now.sieved.now.columns.now places s
+    ∙ row_all graph c.args.row.now.means c.args.time c.args.bound c.args.row.now.sieved.now.columns.now places s
     (λ j l t.
     subst (λ xs. Contains xs j) (sym c.as_slice-place-items.ensures.value) (c.in_ok-places.ensures s j l t m)))
 
 -- even the first column comes too late, so the row tells nothing
 pub returns-then-not-may_have_come-clause-told : goal.returns-then-not-may_have_come-clause-told
 returns-then-not-may_have_come-clause-told c = λ s i m.
-    let g = c.args.problem.now in
-    let t = c.args.row.now in
+    let graph = c.args.problem.now in
+    let row = c.args.row.now in
     let told = list_any (λ b. matches b s) c.args.told.now.items in
-    sym (ap (λ x. told || x) (late_row (is_telling g t.means c.args.time c.args.bound s) t.sieved.now.columns.now
-    t.sieved.now.first c.requires.row.first
-    (c.if-not-may_have_come.ensures g c.args.bound s)) ∙ or-false told)
+    sym (ap (λ x. told || x) (late_row (is_telling graph row.means c.args.time c.args.bound s)
+    row.sieved.now.columns.now
+    row.sieved.now.first c.requires.row.first
+    (c.if-not-may_have_come.ensures graph c.args.bound s)) ∙ or-false told)

@@ -32,13 +32,16 @@ returns-in_default-clause-part c = end_apart c.args.problem.now c.counts_by-coun
 -- the part has the counts with which the execution has ended and the numbers within the bound, if there are any
 pub returns-clause-part : goal.returns-clause-part
 returns-clause-part c =
-    let g = c.args.problem.now in
+    let graph = c.args.problem.now in
     -- `told` matches where the part with those counts does and the variable is within the bound
-    let told : IsPart g (λ s. holds s (range_of g.faults c.args.bound) && matches c.in-Some.part s) c.in_ok-told.told =
-    subst (λ l. IsPart g (λ s. holds s l && matches c.in-Some.part s) c.in_ok-told.told)
+    let told : IsPart graph (λ s. holds s (range_of graph.faults c.args.bound)
+    && matches c.in-Some.part s) c.in_ok-told.told =
+    subst (λ l. IsPart graph (λ s. holds s l && matches c.in-Some.part s) c.in_ok-told.told)
     (c.range.ensures ∙ ap (λ k. range_of k c.args.bound) c.faults.ensures.faults)
-    (part_with g c.range.result c.in-Some.part c.in_ok-told.told c.in_ok-told.ensures.both c.in_ok-told.ensures.none) in
-    end_told g c.counts_by-counts.ensures.limits.few_processes c.args.process c.args.column.now c.args.time c.args.bound
+    (part_with graph c.range.result c.in-Some.part c.in_ok-told.told c.in_ok-told.ensures.both
+    c.in_ok-told.ensures.none) in
+    end_told graph c.counts_by-counts.ensures.limits.few_processes c.args.process c.args.column.now
+    c.args.time c.args.bound
     c.requires.can c.requires.variable
     c.counts_by-counts.result c.counts_by-counts.ensures.counts (omega (arith, c.if-counts-eq0.false)) c.in-Some.part
     c.in_ok-told.told (rw c.in-Some.is at c.in_ok-part.ensures.both) told
@@ -46,13 +49,16 @@ returns-clause-part c =
 -- the column's cube was narrowed twice, by literals on variables of the graph
 pub returns-clause-known : goal.returns-clause-known
 returns-clause-known c =
-    let g = c.args.problem.now in
+    let graph = c.args.problem.now in
     let some : Some c.in-Some.part ≡ with_literal
     (record { variable = c.args.process; low = 0; high = c.counts_by-counts.result - 1 }) c.args.column.now.cube =
     rw (← c.in-Some.is) c.in_ok-part.ensures.cube in
-    let part : IsKnown g c.in-Some.part =
-    known_with g (record { variable = c.args.process; low = 0; high = c.counts_by-counts.result - 1 })
+    let part : IsKnown graph c.in-Some.part =
+    known_with graph (record { variable = c.args.process; low = 0; high = c.counts_by-counts.result - 1 })
     c.args.column.now.cube (Some c.in-Some.part) some
     (inl c.requires.can.0) c.requires.cube in
-    let variable : IsVariable g c.range.result.variable = rw (c.range.ensures, range_variable) c.requires.variable in
-    known_with g c.range.result c.in-Some.part c.in_ok-told.told c.in_ok-told.ensures.cube variable part
+    let variable : IsVariable graph c.range.result.variable = rw (
+      c.range.ensures,
+      range_variable,
+    ) c.requires.variable in
+    known_with graph c.range.result c.in-Some.part c.in_ok-told.told c.in_ok-told.ensures.cube variable part

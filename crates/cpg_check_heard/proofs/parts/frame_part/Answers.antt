@@ -14,13 +14,13 @@ use Rattle.cpg_check_heard.proofs.parts.frame_part.Goals as goal
 -- no literal tells the bound, so the frame does where the value that it carries is within it
 pub returns-clause-part : goal.returns-clause-part
 returns-clause-part c =
-    let g = c.args.problem.now in
+    let graph = c.args.problem.now in
     -- the part in which the value is within the bound
-    let told : IsPart g
-    (λ s. holds s (range_of g.faults c.args.bound) && matches c.args.column.now.cube s) c.in_ok-told.told =
-    subst (λ l. IsPart g (λ s. holds s l && matches c.args.column.now.cube s) c.in_ok-told.told)
+    let told : IsPart graph
+    (λ s. holds s (range_of graph.faults c.args.bound) && matches c.args.column.now.cube s) c.in_ok-told.told =
+    subst (λ l. IsPart graph (λ s. holds s l && matches c.args.column.now.cube s) c.in_ok-told.told)
     (c.range.ensures ∙ ap (λ k. range_of k c.args.bound) c.faults.ensures.faults)
-    (part_with g c.range.result c.args.column.now.cube c.in_ok-told.told c.in_ok-told.ensures.both
+    (part_with graph c.range.result c.args.column.now.cube c.in_ok-told.told c.in_ok-told.ensures.both
     c.in_ok-told.ensures.none) in
     -- the frame has come, no literal of its column tells the bound, and it carries the variable's value
     let come : nat_le (c.args.column.now.time + c.args.delay) c.args.time ≡ true =
@@ -30,7 +30,7 @@ returns-clause-part c =
     c.if-is_told_by_any.false in
     let value : is_value c.args.condition (variable_of c.args.bound) ≡ true =
     ap (is_value c.args.condition) (sym c.variable.ensures) ∙ sym c.is_value.ensures ∙ c.if-not-is_value.false in
-    frame_value g c.faults.ensures.within.few_processes c.args.delay c.args.condition c.args.column.now c.args.time
+    frame_value graph c.faults.ensures.within.few_processes c.args.delay c.args.condition c.args.column.now c.args.time
     c.args.bound c.requires.variable come off value c.in_ok-told.told told
 
 -- the column's cube was narrowed by a literal on a variable of the graph

@@ -9,22 +9,22 @@ use Rattle.cpg_check_quick.proofs.inputs.is_start_sure.Goals as goal
 -- the inputs of a process are edges of the graph
 pub others-requires-clause-edges : goal.others-requires-clause-edges
 others-requires-clause-edges c =
-    let g = c.args.input_rows.now.admitted.now.graph in
-    subst (All (λ e. e < edge_count g)) (sym (c.inputs-edges.ensures.of_graph g c.requires.links))
-    (inputs_below g c.args.process)
+    let graph = c.args.input_rows.now.admitted.now.graph in
+    subst (All (λ e. e < edge_count graph)) (sym (c.inputs-edges.ensures.of_graph graph c.requires.links))
+    (inputs_below graph c.args.process)
 
 -- each column is no earlier than the release, the other inputs are there by then, and the rest always are, so the start
 -- keeps V5
 pub returns : goal.returns
 returns c = of_true c.are_late_enough.result c.are_late_enough.ensures (λ late tables w rules is.
-    let g = c.args.input_rows.now.admitted.now.graph in
+    let graph = c.args.input_rows.now.admitted.now.graph in
     -- the edges are the inputs of the process, and the release is its
-    let all : c.inputs-edges.result.now ≡ inputs g c.args.process =
-    c.inputs-edges.ensures.of_graph g c.requires.links in
+    let all : c.inputs-edges.result.now ≡ inputs graph c.args.process =
+    c.inputs-edges.ensures.of_graph graph c.requires.links in
     let release =
     c.release-release.ensures ∙ ap (λ h. (process_at h c.args.process).release) c.problem.ensures.problem in
-    start_late g tables rules c.problem.ensures.admitted.well_formed c.args.process c.requires.process
+    start_late graph tables rules c.problem.ensures.admitted.well_formed c.args.process c.requires.process
     c.release-release.result release c.in_ok-others.others.items
     (λ e k. c.in_ok-others.ensures.known tables e w (subst (λ xs. Contains xs e) (sym all) k))
-    (subst (All (IsLateEnough g tables c.in_ok-others.others.items c.release-release.result)) is
+    (subst (All (IsLateEnough graph tables c.in_ok-others.others.items c.release-release.result)) is
     (rw c.as_slice.ensures.value at late tables w rules)))

@@ -9,11 +9,12 @@ use Rattle.cpg_check_quick.proofs.inputs.is_sure.Goals as goal
 pub returns-then-item-processes : goal.returns-then-item-processes
 returns-then-item-processes c =
     of_true c.is_after_producer.result c.is_after_producer.ensures (λ before tables w rules is.
-    let g = c.args.input_rows.now.admitted.now.graph in
-    let send : process_count g ≤ c.args.item = omega (
+    let graph = c.args.input_rows.now.admitted.now.graph in
+    let send : process_count graph ≤ c.args.item = omega (
       arith,
       c.if-item-processes.true,
       ap length c.processes.ensures.processes,
       ap process_count c.problem.ensures.problem,
     ) in
-    send_sure g tables rules c.problem.ensures.admitted.well_formed c.args.item c.requires.item send (before tables w))
+    send_sure graph tables rules c.problem.ensures.admitted.well_formed c.args.item
+    c.requires.item send (before tables w))

@@ -11,37 +11,38 @@ use Rattle.cpg_check_quick.proofs.listening.has_ended.Goals as goal
 -- the item is a start, and the process comes before it in the sequence of the node
 pub returns-then-item-processes : goal.returns-then-item-processes
 returns-then-item-processes c = of_true c.is_before.result c.is_before.ensures (λ before tables sequences rules sent.
-    let g = c.args.admitted.now.graph in
-    before_ended g tables rules c.args.item c.args.process c.requires.process (before g tables (execution g) sequences))
+    let graph = c.args.admitted.now.graph in
+    before_ended graph tables rules c.args.item c.args.process c.requires.process
+    (before graph tables (execution graph) sequences))
 
 -- the process is the producer of the send, which keeps V5, so it has ended
 pub returns-then-process-producer : goal.returns-then-process-producer
 returns-then-process-producer c = λ tables sequences rules sent.
-    let g = c.args.admitted.now.graph in
-    let from : c.producer-producer.result ≡ producer g c.args.item =
+    let graph = c.args.admitted.now.graph in
+    let from : c.producer-producer.result ≡ producer graph c.args.item =
     c.producer-producer.ensures.producer ∙ ap (λ h. producer h c.args.item) c.problem-problem.ensures.problem in
-    let send : process_count g ≤ c.args.item = omega (
+    let send : process_count graph ≤ c.args.item = omega (
       arith,
       c.if-item-processes.false,
       ap length c.processes.ensures.processes,
       ap process_count c.problem-problem.ensures.problem,
     ) in
-    subst (λ q. IsEndedBy g tables q c.args.item) (sym (c.if-process-producer.true ∙ from))
-    (producer_ended g tables rules c.args.item c.requires.item send (sent c.if-not-is_sent_in_time.false))
+    subst (λ q. IsEndedBy graph tables q c.args.item) (sym (c.if-process-producer.true ∙ from))
+    (producer_ended graph tables rules c.args.item c.requires.item send (sent c.if-not-is_sent_in_time.false))
 
 -- the process is always over before the producer of the send, which keeps V5, so it has ended by the item's columns
 pub returns : goal.returns
 returns c = of_true c.is_before-2.result c.is_before-2.ensures (λ before tables sequences rules sent.
-    let g = c.args.admitted.now.graph in
-    let from : c.producer-producer.result ≡ producer g c.args.item =
+    let graph = c.args.admitted.now.graph in
+    let from : c.producer-producer.result ≡ producer graph c.args.item =
     c.producer-producer.ensures.producer ∙ ap (λ h. producer h c.args.item) c.problem-problem.ensures.problem in
-    let send : process_count g ≤ c.args.item = omega (
+    let send : process_count graph ≤ c.args.item = omega (
       arith,
       c.if-item-processes.false,
       ap length c.processes.ensures.processes,
       ap process_count c.problem-problem.ensures.problem,
     ) in
-    earlier_ended g tables rules c.args.item c.requires.item send c.problem-problem.ensures.admitted.well_formed
+    earlier_ended graph tables rules c.args.item c.requires.item send c.problem-problem.ensures.admitted.well_formed
     c.args.process c.requires.process
-    (subst (λ p. IsBefore g tables c.args.process p) from (before g tables (execution g) sequences))
+    (subst (λ p. IsBefore graph tables c.args.process p) from (before graph tables (execution graph) sequences))
     (sent c.if-not-is_sent_in_time.false))

@@ -8,7 +8,11 @@ use Rattle.cpg_check_quick.proofs.listening.own_ended.Goals as goal
 
 -- no variable is marked yet
 pub loop-variable-init : goal.loop-variable-init
-loop-variable-init c = record { long = refl; ended = λ tables sequences rules sent v t. absurd (none_marked 256 v t) }
+loop-variable-init c = record {
+  long = refl;
+  ended = λ tables sequences rules sent v holds.
+      absurd (none_marked 256 v holds);
+}
 
 -- the next variable is marked only if its process is on the node and has always ended by the item's columns
 pub loop-variable-preserved : goal.loop-variable-preserved

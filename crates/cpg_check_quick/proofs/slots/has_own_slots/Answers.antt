@@ -17,12 +17,13 @@ use Rattle.cpg_check_quick.proofs.slots.has_own_slots.Goals as goal
 -- keeps V7
 pub returns : goal.returns
 returns c =
-    let g = c.args.admitted.now.graph in
+    let graph = c.args.admitted.now.graph in
     let tables = c.args.tables.now.nodes in
-    let starts : All (λ (d : Column). (s : Scenario) → IsScenario g s → matches d.cube s ≡ true →
-    next_slot g (home g c.args.item) d.time ≡ d.time) (columns_of tables c.args.item) =
+    let starts : All (λ (d : Column). (s : Scenario) → IsScenario graph s → matches d.cube s ≡ true →
+    next_slot graph (home graph c.args.item) d.time ≡ d.time) (columns_of tables c.args.item) =
     rw (← c.problem-problem.ensures.problem, ← c.home-node.ensures.home, ← c.columns_of.ensures.columns)
     (OnTrue_at c.if-not-are_in_slots.false c.are_in_slots.ensures) in
     of_true c.in_ok-is_alone.is_alone c.in_ok-is_alone.ensures (λ all.
-    sure_own_slots g tables c.args.item c.as_slice.result.now (c.as_slice.ensures.value
-    ∙ rw c.problem-problem.ensures.problem at c.in_ok-lower.ensures) starts (all g tables sending c.requires.sequences))
+    sure_own_slots graph tables c.args.item c.as_slice.result.now (c.as_slice.ensures.value
+    ∙ rw c.problem-problem.ensures.problem at c.in_ok-lower.ensures) starts
+    (all graph tables sending c.requires.sequences))

@@ -11,24 +11,24 @@ use Rattle.cpg_check_quick.proofs.spanned_rows.frames.Goals as goal
 -- the row that is added is that of the next item, whose frames last as long as its node's slot
 pub loop-item-preserved : goal.loop-item-preserved
 loop-item-preserved c =
-    let g = c.args.admitted.now.graph in
-    let length : c.slot_length.result ≡ slot_length g (home g c.loop-item.item) =
+    let graph = c.args.admitted.now.graph in
+    let length : c.slot_length.result ≡ slot_length graph (home graph c.loop-item.item) =
     c.slot_length.ensures ∙ ap (slot_length c.problem-problem.result.now) c.home.ensures.home ∙
     ap (λ h. slot_length h (home h c.loop-item.item)) c.problem-problem.ensures.problem in
-    rw c.in_ok-push.ensures.items (rows_more (frame g) g c.args.tables.now.nodes c.loop-item.item
+    rw c.in_ok-push.ensures.items (rows_more (frame graph) graph c.args.tables.now.nodes c.loop-item.item
     c.loop-item.list.items c.spanned_row_of.result c.loop-item.invariant
-    (c.spanned_row_of.ensures (frame g c.loop-item.item)
-    (subst (λ n. IsSpan g (λ _. n) c.fixed-span.result) length (c.fixed-span.ensures g))))
+    (c.spanned_row_of.ensures (frame graph c.loop-item.item)
+    (subst (λ n. IsSpan graph (λ _. n) c.fixed-span.result) length (c.fixed-span.ensures graph))))
 
 -- the space has all scenarios of the graph, and the loop made a row for each item
 pub returns : goal.returns
 returns c =
-    let g = c.args.admitted.now.graph in
-    let faults : c.faults.result ≡ g.faults =
+    let graph = c.args.admitted.now.graph in
+    let faults : c.faults.result ≡ graph.faults =
     c.faults.ensures.faults ∙ ap (λ (h : Graph). h.faults) c.problem-problem.ensures.problem in
     record {
       rows = record {
-        everywhere = record { lies = λ s law. c.whole.ensures.lies s (few_of g c.faults.result faults s law) };
+        everywhere = record { lies = λ s law. c.whole.ensures.lies s (few_of graph c.faults.result faults s law) };
         each = c.loop-item.invariant.each;
       };
     }

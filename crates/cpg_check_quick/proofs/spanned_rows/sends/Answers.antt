@@ -16,10 +16,10 @@ loop-item-preserved c = rw c.in_ok-push.ensures.items
 -- the space has all scenarios of the graph, and the loop made a row for each item
 pub returns-clause-rows : goal.returns-clause-rows
 returns-clause-rows c =
-    let g = c.args.admitted.now.graph in
-    let faults : c.faults.result ≡ g.faults =
+    let graph = c.args.admitted.now.graph in
+    let faults : c.faults.result ≡ graph.faults =
     c.faults.ensures.faults ∙ ap (λ (h : Graph). h.faults) c.problem-problem.ensures.problem in
     record {
-      everywhere = record { lies = λ s law. c.whole.ensures.lies s (few_of g c.faults.result faults s law) };
+      everywhere = record { lies = λ s law. c.whole.ensures.lies s (few_of graph c.faults.result faults s law) };
       each = c.loop-item.invariant.each;
     }

@@ -11,15 +11,15 @@ use Rattle.cpg_check_quick.proofs.spanned_rows.spanned_row_of.Goals as goal
 -- item is said to be always active only if it is running in the whole space
 pub returns : goal.returns
 returns c =
-    let g = c.args.admitted.now.graph in
+    let graph = c.args.admitted.now.graph in
     let same = c.columns_of-columns.ensures.columns in
     -- the space is of the graph's faults
-    let faults : c.faults.result ≡ g.faults =
+    let faults : c.faults.result ≡ graph.faults =
     c.faults.ensures.faults ∙ ap (λ (h : Graph). h.faults) c.problem.ensures.problem in
     λ lasts span. record {
       item = c.requires.item;
       columns = same;
-      tree = tree_of_row g c.args.tables.now.nodes c.args.trees.now c.args.item c.requires.trees c.requires.item
+      tree = tree_of_row graph c.args.tables.now.nodes c.args.trees.now c.args.item c.requires.trees c.requires.item
           c.index-trees-item.result c.index-trees-item.is;
       -- the two times bound those of the columns
       first = subst (λ (columns : List Column). All (λ (d : Column). c.first_time.result ≤ d.time) columns) same
@@ -29,5 +29,5 @@ returns c =
       -- the span is the given one, and an item that runs in the whole space is always active
       span = span;
       always = λ e s law. OnTrue_at e c.is_item_running.ensures s law
-          (c.whole-everywhere.ensures.lies s (few_of g c.faults.result faults s law));
+          (c.whole-everywhere.ensures.lies s (few_of graph c.faults.result faults s law));
     }

@@ -33,14 +33,14 @@ first_idle-requires-clause-few c = rw c.columns_of-columns.ensures.columns
 -- no earlier item breaks V1, so the first column of this one that does is the first violation
 pub returns-in-Some-clause-first : goal.returns-in-Some-clause-first
 returns-in-Some-clause-first c =
-    let g = c.args.admitted.now.graph in
-    let first : IsFirstColumn g c.args.admitted.now.order
-    (is_idle g c.loop-item.item (columns_of c.args.tables.now.nodes c.loop-item.item)) (
+    let graph = c.args.admitted.now.graph in
+    let first : IsFirstColumn graph c.args.admitted.now.order
+    (is_idle graph c.loop-item.item (columns_of c.args.tables.now.nodes c.loop-item.item)) (
       c.in-Some.column,
       c.in-Some.scenario,
     ) =
     rw (← c.columns_of-columns.ensures.columns) (rw c.in-Some.is at c.in_ok-idle.ensures.first) in
-    first_violation Rule.Activity g c.args.tables.now.nodes c.loop-item.item
+    first_violation Rule.Activity graph c.args.tables.now.nodes c.loop-item.item
     (λ y s. refl) c.number.result c.number.ensures c.args.admitted.now.order c.in-Some.column c.in-Some.scenario
     (omega (arith, c.loop-item-test.true, c.item_count-item-end.ensures, ap item_count c.problem.ensures.problem))
     c.loop-item.invariant first
@@ -48,17 +48,17 @@ returns-in-Some-clause-first c =
 -- no column of the next item breaks V1, so none of one item more does
 pub loop-item-preserved : goal.loop-item-preserved
 loop-item-preserved c =
-    let g = c.args.admitted.now.graph in
-    let none : (i : ℕ) (s : Scenario) → IsScenario g s →
-    is_idle g c.loop-item.item (columns_of c.args.tables.now.nodes c.loop-item.item) i s ≡ false =
+    let graph = c.args.admitted.now.graph in
+    let none : (i : ℕ) (s : Scenario) → IsScenario graph s →
+    is_idle graph c.loop-item.item (columns_of c.args.tables.now.nodes c.loop-item.item) i s ≡ false =
     rw (← c.columns_of-columns.ensures.columns) (rw c.in_default.is at c.in_ok-idle.ensures.none) in
-    none_more Rule.Activity g c.args.tables.now.nodes c.loop-item.item (λ y s. refl) c.loop-item.invariant none
+    none_more Rule.Activity graph c.args.tables.now.nodes c.loop-item.item (λ y s. refl) c.loop-item.invariant none
 
 -- the next item is marked as sure, so none of one item more breaks V1
 pub loop-item-preserved-then-is_marked : goal.loop-item-preserved-then-is_marked
 loop-item-preserved-then-is_marked c =
-    let g = c.args.admitted.now.graph in
-    let below : c.loop-item.item < item_count g =
+    let graph = c.args.admitted.now.graph in
+    let below : c.loop-item.item < item_count graph =
     omega (arith, c.loop-item-test.true, c.item_count-item-end.ensures, ap item_count c.problem.ensures.problem) in
-    marked_more g c.args.tables.now.nodes Rule.Activity c.args.marks.now c.requires.marks c.loop-item.item below
+    marked_more graph c.args.tables.now.nodes Rule.Activity c.args.marks.now c.requires.marks c.loop-item.item below
     (sym c.if-is_marked.ensures) c.loop-item.invariant

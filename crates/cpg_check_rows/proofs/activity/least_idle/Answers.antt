@@ -10,11 +10,11 @@ use Rattle.cpg_check_rows.proofs.activity.least_idle.Goals as goal
 -- the process is inactive exactly where its guard says so, and `least_at` was asked for that
 pub returns : goal.returns
 returns c =
-    let g = c.args.admitted.now.graph in
+    let graph = c.args.admitted.now.graph in
     let tree : c.guard_of-tree.result.now ≡ tree_of c.args.admitted.now.guards c.args.process =
     c.guard_of-tree.ensures.tree ∙ ap (λ guards. tree_of guards c.args.process) c.guards.ensures.guards in
     -- the answer, said of the guard of the process
-    let found : IsFirst g c.args.admitted.now.order
+    let found : IsFirst graph c.args.admitted.now.order
     (λ s. is_left [] c.args.cube.now s && comes_to (tree_of c.args.admitted.now.guards c.args.process) false s)
     c.in_ok-found.found =
     rw (← tree) c.in_ok-found.ensures in

@@ -18,9 +18,10 @@ earlier-requires-clause-order c =
 -- least scenarios of both kinds is the least
 pub returns : goal.returns
 returns c =
-    let g = c.args.admitted.now.graph in
+    let graph = c.args.admitted.now.graph in
     let cube = c.args.column.now.cube in
     rw (c.earlier.ensures, c.order.ensures.order, c.problem.ensures.problem)
-    (first_either g c.args.admitted.now.order (matches cube) (λ s. not (item_active g s.values (item_at g c.args.item)))
-    (λ s. list_any (λ l. not (active g s.values (process_of_variable g l.variable))) cube)
+    (first_either graph c.args.admitted.now.order (matches cube)
+    (λ s. not (item_active graph s.values (item_at graph c.args.item)))
+    (λ s. list_any (λ l. not (active graph s.values (process_of_variable graph l.variable))) cube)
     c.in_ok-inactive.inactive c.in_ok-unrun.unrun c.in_ok-inactive.ensures c.in_ok-unrun.ensures)

@@ -15,22 +15,24 @@ use Rattle.cpg_check_rows.proofs.activity.least_unlive.Goals as goal
 -- the edge asks for no value, so it isn't live exactly if its source isn't active
 pub returns-in_default : goal.returns-in_default
 returns-in_default c =
-    let g = c.args.admitted.now.graph in
+    let graph = c.args.admitted.now.graph in
     let order = c.args.admitted.now.order in
-    let a = c.problem-problem.ensures.admitted in
-    let e = c.args.edge in
-    let is : c.source-process.result ≡ source g e =
-    c.source-process.ensures.source ∙ ap (λ h. source h e) c.problem-problem.ensures.problem in
+    let admitted = c.problem-problem.ensures.admitted in
+    let edge = c.args.edge in
+    let is : c.source-process.result ≡ source graph edge =
+    c.source-process.ensures.source ∙ ap (λ h. source h edge) c.problem-problem.ensures.problem in
     -- the least scenario in which the source isn't active
     let idle =
-    subst (λ p. IsFirst g order (λ s. matches c.args.cube.now s && not (active g s.values p)) c.in_ok-idle.idle) is
+    subst (λ p. IsFirst graph order
+    (λ s. matches c.args.cube.now s && not (active graph s.values p)) c.in_ok-idle.idle) is
     c.in_ok-idle.ensures in
     -- the source always has the value that the edge asks for, as it asks for none
     let none = rw (c.in_default.is, c.problem-problem.ensures.problem) at c.other_value.ensures.none in
-    unlive_idle g order c.args.cube.now (λ s. active g s.values (source g e))
-    (λ s. is_passed (test_of (condition_of g (source g e)) (edge_at g e).when) s.values)
-    (λ s. live g s.values e) c.in_ok-idle.idle
-    (λ s i. live_tested g order a.topological c.args.admitted.now.guards a.guards s.values i.values e c.requires.edge)
+    unlive_idle graph order c.args.cube.now (λ s. active graph s.values (source graph edge))
+    (λ s. is_passed (test_of (condition_of graph (source graph edge)) (edge_at graph edge).when) s.values)
+    (λ s. live graph s.values edge) c.in_ok-idle.idle
+    (λ s i. live_tested graph order admitted.topological c.args.admitted.now.guards admitted.guards s.values
+    i.values edge c.requires.edge)
     none idle
 
 -- the urgency order has each process
@@ -47,22 +49,24 @@ earlier-requires-clause-second c = lawful_if_some c.problem-problem.result.now c
 -- the edge isn't live if its source isn't active or has the other value, so the earlier of both is the least
 pub returns : goal.returns
 returns c =
-    let g = c.args.admitted.now.graph in
+    let graph = c.args.admitted.now.graph in
     let order = c.args.admitted.now.order in
-    let a = c.problem-problem.ensures.admitted in
-    let e = c.args.edge in
+    let admitted = c.problem-problem.ensures.admitted in
+    let edge = c.args.edge in
     -- the edge's source
-    let is : c.source-process.result ≡ source g e =
-    c.source-process.ensures.source ∙ ap (λ h. source h e) c.problem-problem.ensures.problem in
+    let is : c.source-process.result ≡ source graph edge =
+    c.source-process.ensures.source ∙ ap (λ h. source h edge) c.problem-problem.ensures.problem in
     -- the least scenario in which it isn't active, and the least in which it has the other value
     let idle =
-    subst (λ p. IsFirst g order (λ s. matches c.args.cube.now s && not (active g s.values p)) c.in_ok-idle.idle) is
+    subst (λ p. IsFirst graph order
+    (λ s. matches c.args.cube.now s && not (active graph s.values p)) c.in_ok-idle.idle) is
     c.in_ok-idle.ensures in
     let other = rw c.problem-problem.ensures.problem at (c.in_ok-other.ensures order) in
     let some = rw c.problem-problem.ensures.problem at c.in-Some.ensures.some in
     rw (c.earlier.ensures, c.problem-problem.ensures.problem, c.order-order.ensures.order)
-    (unlive_either g order c.args.cube.now (λ s. active g s.values (source g e))
-    (λ s. is_passed (test_of (condition_of g (source g e)) (edge_at g e).when) s.values)
-    (λ s. live g s.values e) c.in-Some.literal c.in_ok-idle.idle c.in_ok-other.other
-    (λ s i. live_tested g order a.topological c.args.admitted.now.guards a.guards s.values i.values e c.requires.edge)
+    (unlive_either graph order c.args.cube.now (λ s. active graph s.values (source graph edge))
+    (λ s. is_passed (test_of (condition_of graph (source graph edge)) (edge_at graph edge).when) s.values)
+    (λ s. live graph s.values edge) c.in-Some.literal c.in_ok-idle.idle c.in_ok-other.other
+    (λ s i. live_tested graph order admitted.topological c.args.admitted.now.guards admitted.guards s.values
+    i.values edge c.requires.edge)
     some idle other)

@@ -17,7 +17,7 @@ earlier-found-requires-clause-order c =
 -- the earlier of the answer so far and the next literal's is the least for one literal more
 pub loop-literal-preserved : goal.loop-literal-preserved
 loop-literal-preserved c =
-    let g = c.args.admitted.now.graph in
+    let graph = c.args.admitted.now.graph in
     let cube = c.args.cube.now in
     let literals : c.literals-literal-items.result.now ≡ cube = c.literals-literal-items.ensures.literals in
     let within : c.loop-literal.literal-index < length cube =
@@ -26,8 +26,8 @@ loop-literal-preserved c =
     let process = c.process_of_variable-process.ensures.process in
     let next = rw (process, c.problem-problem.ensures.problem, literals) at c.in_ok-next.ensures in
     rw (c.earlier-found.ensures, c.problem-problem.ensures.problem, c.order-order.ensures.order)
-    (first_any_more g c.args.admitted.now.order (matches cube)
-    (λ s l. not (active g s.values (process_of_variable g l.variable))) cube c.loop-literal.literal-index
+    (first_any_more graph c.args.admitted.now.order (matches cube)
+    (λ s l. not (active graph s.values (process_of_variable graph l.variable))) cube c.loop-literal.literal-index
     (record { variable = 0; low = 0; high = 0 }) within
     c.loop-literal.found c.in_ok-next.next c.loop-literal.invariant next)
 

@@ -10,11 +10,11 @@ use Rattle.cpg_check_rows.proofs.activity.least_with.Goals as goal
 -- the cube stays on variables of the graph when the literal narrows it
 pub least-requires : goal.least-requires
 least-requires c =
-    let g = c.args.problem.now in
+    let graph = c.args.problem.now in
     let some : with_literal c.args.literal c.args.cube.now ≡ Some c.in-Some.part = search rules in
     record {
-      known = subst (IsKnown g) (with-is c.args.literal c.args.cube.now c.in-Some.part some)
-          (known-narrowed g c.args.literal c.args.cube.now c.requires.literal c.requires.cube);
+      known = subst (IsKnown graph) (with-is c.args.literal c.args.cube.now c.in-Some.part some)
+          (known-narrowed graph c.args.literal c.args.cube.now c.requires.literal c.requires.cube);
     }
 
 -- the part matches exactly where the cube does and the literal holds, so its least scenario is the answer

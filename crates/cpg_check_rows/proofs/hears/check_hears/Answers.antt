@@ -22,19 +22,19 @@ first_hear-requires-clause-few c = rw c.columns_of-sent.ensures.columns
 -- all earlier items are heard well, so the difference found here is the first
 pub returns-in-Some-clause-first : goal.returns-in-Some-clause-first
 returns-in-Some-clause-first c =
-    let g = c.args.admitted.now.graph in
+    let graph = c.args.admitted.now.graph in
     -- the columns by which the item is to be heard: the sender's, each later by its slot
-    let delay : c.slot_length-delay.result ≡ slot_length g (home g c.loop-item.item) =
+    let delay : c.slot_length-delay.result ≡ slot_length graph (home graph c.loop-item.item) =
     c.slot_length-delay.ensures ∙ ap (slot_length c.problem-problem.result.now) c.home.ensures.home
     ∙ ap (λ h. slot_length h (home h c.loop-item.item)) c.problem-problem.ensures.problem in
     let due : map (later_by c.slot_length-delay.result) c.columns_of-sent.result.now
-    ≡ due_columns g c.args.tables.now.nodes c.loop-item.item =
+    ≡ due_columns graph c.args.tables.now.nodes c.loop-item.item =
     ap₂ (λ d (cs : List Column). map (later_by d) cs) delay c.columns_of-sent.ensures.columns in
-    let nodes : length c.args.tables.now.head.nodes ≡ length g.nodes = ap length c.requires.nodes in
+    let nodes : length c.args.tables.now.head.nodes ≡ length graph.nodes = ap length c.requires.nodes in
     -- the difference that was found, said of these columns and of the graph's nodes
-    let first : IsFirstHear c.args.tables.now.nodes (length g.nodes) c.loop-item.item
-    (due_columns g c.args.tables.now.nodes c.loop-item.item) c.in-Some.place =
-    subst (λ cs. IsFirstHear c.args.tables.now.nodes (length g.nodes) c.loop-item.item cs c.in-Some.place) due
+    let first : IsFirstHear c.args.tables.now.nodes (length graph.nodes) c.loop-item.item
+    (due_columns graph c.args.tables.now.nodes c.loop-item.item) c.in-Some.place =
+    subst (λ cs. IsFirstHear c.args.tables.now.nodes (length graph.nodes) c.loop-item.item cs c.in-Some.place) due
     (subst (λ n. IsFirstHear c.args.tables.now.nodes n c.loop-item.item (map (later_by c.slot_length-delay.result)
     c.columns_of-sent.result.now) c.in-Some.place) nodes c.in-Some.ensures.differ) in
     -- it is the first violation of V10: number, item, scenario, and that all items before are heard well
@@ -54,25 +54,26 @@ returns-in-Some-clause-first c =
 -- the next item is heard well, too
 pub loop-item-preserved : goal.loop-item-preserved
 loop-item-preserved c =
-    let g = c.args.admitted.now.graph in
+    let graph = c.args.admitted.now.graph in
     -- the columns by which it is to be heard, and that no node hears it by others
-    let delay : c.slot_length-delay.result ≡ slot_length g (home g c.loop-item.item) =
+    let delay : c.slot_length-delay.result ≡ slot_length graph (home graph c.loop-item.item) =
     c.slot_length-delay.ensures ∙ ap (slot_length c.problem-problem.result.now) c.home.ensures.home
     ∙ ap (λ h. slot_length h (home h c.loop-item.item)) c.problem-problem.ensures.problem in
     let due : map (later_by c.slot_length-delay.result) c.columns_of-sent.result.now
-    ≡ due_columns g c.args.tables.now.nodes c.loop-item.item =
+    ≡ due_columns graph c.args.tables.now.nodes c.loop-item.item =
     ap₂ (λ d (cs : List Column). map (later_by d) cs) delay c.columns_of-sent.ensures.columns in
-    let nodes : length c.args.tables.now.head.nodes ≡ length g.nodes = ap length c.requires.nodes in
-    let well : IsHeardWell g c.args.tables.now.nodes c.loop-item.item = rw (← due, ← nodes) c.in_default.ensures.same in
-    heard_more g c.args.tables.now.nodes c.loop-item.item c.loop-item.invariant well
+    let nodes : length c.args.tables.now.head.nodes ≡ length graph.nodes = ap length c.requires.nodes in
+    let well : IsHeardWell graph c.args.tables.now.nodes c.loop-item.item = rw (← due, ← nodes)
+    c.in_default.ensures.same in
+    heard_more graph c.args.tables.now.nodes c.loop-item.item c.loop-item.invariant well
 
 -- all items are heard well, so V10 holds
 pub returns-clause-none : goal.returns-clause-none
 returns-clause-none c =
-    let g = c.args.admitted.now.graph in
-    let are : AreTablesOf (head_of g) c.args.tables.now.nodes =
-    tables_of_graph g c.args.tables.now.head c.args.tables.now.nodes c.requires c.head.ensures.lawful in
-    hears_hold g c.problem-problem.ensures.admitted.limits c.args.tables.now.nodes are
+    let graph = c.args.admitted.now.graph in
+    let are : AreTablesOf (head_of graph) c.args.tables.now.nodes =
+    tables_of_graph graph c.args.tables.now.head c.args.tables.now.nodes c.requires c.head.ensures.lawful in
+    hears_hold graph c.problem-problem.ensures.admitted.limits c.args.tables.now.nodes are
     (λ x l. c.loop-item.invariant x (omega (
       arith,
       l,

@@ -26,21 +26,21 @@ least_absent-requires-clause-columns c =
 -- the next item is never active without a column, so none of one item more breaks V3
 pub loop-item-preserved : goal.loop-item-preserved
 loop-item-preserved c =
-    let g = c.args.admitted.now.graph in
-    let none : (s : Scenario) → IsScenario g s →
-    is_absent g (columns_of c.args.tables.now.nodes c.loop-item.item) c.loop-item.item s ≡ false =
+    let graph = c.args.admitted.now.graph in
+    let none : (s : Scenario) → IsScenario graph s →
+    is_absent graph (columns_of c.args.tables.now.nodes c.loop-item.item) c.loop-item.item s ≡ false =
     rw (← c.columns_of-columns.ensures.columns) (rw c.in_default.is at c.in_ok-absent.ensures) in
-    present_more g c.args.tables.now.nodes c.loop-item.item c.loop-item.invariant none
+    present_more graph c.args.tables.now.nodes c.loop-item.item c.loop-item.invariant none
 
 -- the next item is marked as sure, so none of one item more breaks V3
 pub loop-item-preserved-then-is_marked : goal.loop-item-preserved-then-is_marked
 loop-item-preserved-then-is_marked c =
-    let g = c.args.admitted.now.graph in
-    let below : c.loop-item.item < item_count g = omega (
+    let graph = c.args.admitted.now.graph in
+    let below : c.loop-item.item < item_count graph = omega (
       arith,
       c.loop-item-test.true,
       c.item_count-item-end.ensures,
       ap item_count c.problem-problem.ensures.problem,
     ) in
-    marked_more g c.args.tables.now.nodes Rule.Present c.args.marks.now c.requires.marks c.loop-item.item below
+    marked_more graph c.args.tables.now.nodes Rule.Present c.args.marks.now c.requires.marks c.loop-item.item below
     (sym c.if-is_marked.ensures) c.loop-item.invariant

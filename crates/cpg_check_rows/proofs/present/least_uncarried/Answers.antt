@@ -15,17 +15,19 @@ use Rattle.cpg_check_rows.proofs.present.least_uncarried.Goals as goal
 -- asked for that
 pub returns : goal.returns
 returns c =
-    let g = c.args.admitted.now.graph in
+    let graph = c.args.admitted.now.graph in
     let order = c.args.admitted.now.order in
-    let e = c.args.edge in
+    let edge = c.args.edge in
     let same = c.problem-problem.ensures.problem in
     -- where the cube matches, and the answer, said of the edge's source
     let passed = subst (λ h. (s : Scenario) → matches c.in_ok-cube.cube s ≡ is_passed
-    (test_of (condition_of h (source h e)) (edge_at h e).when) s.values) same c.in_ok-cube.ensures.passed in
-    let is : c.source-process.result ≡ source g e = c.source-process.ensures.source ∙ ap (λ h. source h e) same in
+    (test_of (condition_of h (source h edge)) (edge_at h edge).when) s.values) same c.in_ok-cube.ensures.passed in
+    let is : c.source-process.result ≡ source graph edge = c.source-process.ensures.source
+    ∙ ap (λ h. source h edge) same in
     let found =
-    subst (λ p. IsFirst g order (λ s. is_left (map (λ (c : Column). c.cube) c.args.columns.now) c.in_ok-cube.cube s
-    && active g s.values p) c.in_ok-found.found) is c.in_ok-found.ensures in
-    absent_from g order c.args.columns.now (λ s. live g s.values e) (source g e) c.in_ok-cube.cube
-    (λ s i. live_where c.problem-problem.ensures.admitted s i e c.requires.edge c.in_ok-cube.cube (passed s))
+    subst (λ p. IsFirst graph order (λ s. is_left (map (λ (c : Column). c.cube) c.args.columns.now) c.in_ok-cube.cube s
+    && active graph s.values p) c.in_ok-found.found) is c.in_ok-found.ensures in
+    absent_from graph order c.args.columns.now (λ s. live graph s.values edge) (source graph edge) c.in_ok-cube.cube
+    (λ s lawful. live_where c.problem-problem.ensures.admitted s lawful edge c.requires.edge
+    c.in_ok-cube.cube (passed s))
     c.in_ok-found.found found

@@ -9,8 +9,8 @@ use Rattle.cpg_check_rows.proofs.present.least_unstarted.Goals as goal
 -- `least_without` was asked for
 pub returns : goal.returns
 returns c =
-    let g = c.args.admitted.now.graph in
-    let p = c.args.process in
-    absent_from g c.args.admitted.now.order c.args.columns.now (λ s. active g s.values p) p []
-    (λ s i. with_true (active g s.values p) true refl) c.in_ok-found.found
+    let graph = c.args.admitted.now.graph in
+    let process = c.args.process in
+    absent_from graph c.args.admitted.now.order c.args.columns.now (λ s. active graph s.values process) process []
+    (λ s i. with_true (active graph s.values process) true refl) c.in_ok-found.found
     (rw c.whole-whole.ensures at c.in_ok-found.ensures)

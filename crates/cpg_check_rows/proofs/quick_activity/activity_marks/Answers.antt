@@ -8,10 +8,10 @@ use Rattle.cpg_check_rows.proofs.quick_activity.activity_marks.Goals as goal
 -- the space of all scenarios has each scenario of the graph
 pub marks_of-requires-clause-everywhere : goal.marks_of-requires-clause-everywhere
 marks_of-requires-clause-everywhere c s law =
-    let g = c.args.admitted.now.graph in
-    let faults : c.faults.result ≡ g.faults =
+    let graph = c.args.admitted.now.graph in
+    let faults : c.faults.result ≡ graph.faults =
     c.faults.ensures.faults ∙ ap (λ (h : Graph). h.faults) c.problem-2.ensures.problem in
-    c.whole-everywhere.ensures.lies s (few_of g c.faults.result faults s law)
+    c.whole-everywhere.ensures.lies s (few_of graph c.faults.result faults s law)
 
 -- if each process is marked, each is active in every scenario
 pub marks_of-requires-clause-all : goal.marks_of-requires-clause-all

@@ -11,13 +11,13 @@ use Rattle.cpg_check_rows.proofs.quick_activity.are_active.Goals as goal
 -- the process of the next literal is active, too
 pub loop-literal-preserved : goal.loop-literal-preserved
 loop-literal-preserved c s law lies =
-    let g = c.args.admitted.now.graph in
+    let graph = c.args.admitted.now.graph in
     let literals = c.args.literals.now in
     let literal : Literal = get_or literals c.loop-literal.literal-index (record { variable = 0; low = 0; high = 0 }) in
-    let here : active g s.values (process_of_variable g literal.variable) ≡ true =
+    let here : active graph s.values (process_of_variable graph literal.variable) ≡ true =
     rw (c.process_of_variable-process.ensures.process, c.problem.ensures.problem) at
     (OnTrue_at c.if-not-is_active.false c.is_active.ensures s law lies) in
-    list_any_more (λ (l : Literal). not (active g s.values (process_of_variable g l.variable))) literals
+    list_any_more (λ (l : Literal). not (active graph s.values (process_of_variable graph l.variable))) literals
     c.loop-literal.literal-index
     (record { variable = 0; low = 0; high = 0 }) c.loop-literal-test.true
     ∙ ap₂ (λ a b. a || not b) (c.loop-literal.invariant s law lies) here

@@ -23,13 +23,15 @@ returns-then-not-narrow_to c s law m =
 -- active
 pub returns : goal.returns
 returns c =
-    let g = c.args.admitted.now.graph in
+    let graph = c.args.admitted.now.graph in
     let same = c.literals-literals.ensures.literals in
     let fits = from_true c.narrow_to.result c.if-not-narrow_to.false c.narrow_to.ensures.lies in
     of_true c.are_active.result c.are_active.ensures (λ told s law m.
     let lies = fits s (c.requires.everywhere s law) (c.on_values.ensures s (ap (λ ls. matches ls s) same ∙ m)) in
-    both_active (item_active g s.values (item_at g c.args.item))
-    (list_any (λ (l : Literal). not (active g s.values (process_of_variable g l.variable))) c.args.column.now.cube)
+    both_active (item_active graph s.values (item_at graph c.args.item))
+    (list_any (λ (l : Literal). not (active graph s.values (process_of_variable graph l.variable)))
+    c.args.column.now.cube)
     (OnTrue_at c.if-not-is_item_running.false c.is_item_running.ensures s law lies)
-    (subst (λ ls. list_any (λ (l : Literal). not (active g s.values (process_of_variable g l.variable))) ls ≡ false)
+    (subst (λ ls. list_any (λ (l : Literal). not
+    (active graph s.values (process_of_variable graph l.variable))) ls ≡ false)
     same (told s law lies)))

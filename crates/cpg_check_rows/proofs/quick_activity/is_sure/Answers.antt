@@ -25,18 +25,19 @@ are_lawful-requires-clause-columns c =
 -- all processes and the item are always active, so the item keeps V1
 pub returns-then-is_plain : goal.returns-then-is_plain
 returns-then-is_plain c =
-    let g = c.args.admitted.now.graph in
-    let a = c.problem-problem.ensures.admitted in
-    let are : AreTablesOf (head_of g) c.args.tables.now.nodes = tables_of_graph g c.args.tables.now.head
+    let graph = c.args.admitted.now.graph in
+    let admitted = c.problem-problem.ensures.admitted in
+    let are : AreTablesOf (head_of graph) c.args.tables.now.nodes = tables_of_graph graph c.args.tables.now.head
     c.args.tables.now.nodes c.requires.head c.columns_of-columns.ensures.lawful in
-    always_sure g c.args.tables.now.nodes c.args.item a.limits.few_processes
-    (OnTrue_at c.if-is_plain.true c.is_plain.ensures.all) (columns_known a c.args.tables.now.nodes are c.args.item)
+    always_sure graph c.args.tables.now.nodes c.args.item admitted.limits.few_processes
+    (OnTrue_at c.if-is_plain.true c.is_plain.ensures.all)
+    (columns_known admitted c.args.tables.now.nodes are c.args.item)
     (OnTrue_at c.if-is_plain.true c.is_plain.ensures.item)
 
 -- if no column of the row breaks V1 in a scenario that it matches, the item keeps V1
 pub returns : goal.returns
 returns c =
-    let g = c.args.admitted.now.graph in
-    of_true c.are_lawful.result c.are_lawful.ensures (λ all. lawful_sure g c.args.tables.now.nodes c.args.item
-    (subst (λ xs. All (λ (d : Column). (s : Scenario) → IsScenario g s → matches d.cube s ≡ true →
-    breaks_activity g s c.args.item d ≡ false) xs) c.columns_of-columns.ensures.columns all))
+    let graph = c.args.admitted.now.graph in
+    of_true c.are_lawful.result c.are_lawful.ensures (λ all. lawful_sure graph c.args.tables.now.nodes c.args.item
+    (subst (λ xs. All (λ (d : Column). (s : Scenario) → IsScenario graph s → matches d.cube s ≡ true →
+    breaks_activity graph s c.args.item d ≡ false) xs) c.columns_of-columns.ensures.columns all))

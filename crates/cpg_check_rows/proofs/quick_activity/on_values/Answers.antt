@@ -7,4 +7,4 @@ use Rattle.cpg_check_rows.proofs.quick_activity.on_values.Goals as goal
 -- where all literals hold, the last ones do
 pub returns-then-literals-from-lt-FIRST_VALUE : goal.returns-then-literals-from-lt-FIRST_VALUE
 returns-then-literals-from-lt-FIRST_VALUE c =
-    λ s m. matches_from c.args.literals.now (length c.args.literals.now - c.loop-later.later) s m
+    λ s it_matches. matches_from c.args.literals.now (length c.args.literals.now - c.loop-later.later) s it_matches

@@ -37,12 +37,12 @@ first_double-requires-clause-few c = rw c.columns_of-columns.ensures.columns
 -- no earlier item breaks V2, so the first column of this one that does is the first violation
 pub returns-in-Some-clause-first : goal.returns-in-Some-clause-first
 returns-in-Some-clause-first c =
-    let g = c.args.admitted.now.graph in
-    let first : IsFirstColumn g c.args.admitted.now.order
+    let graph = c.args.admitted.now.graph in
+    let first : IsFirstColumn graph c.args.admitted.now.order
     (is_double (columns_of c.args.tables.now.nodes c.loop-item.item)) (c.in-Some.column, c.in-Some.scenario) =
     rw (← c.problem-problem.ensures.problem, ← c.order-order.ensures.order, ← c.columns_of-columns.ensures.columns)
     (rw c.in-Some.is at c.in_ok-double.ensures.first) in
-    first_violation Rule.Single g c.args.tables.now.nodes c.loop-item.item
+    first_violation Rule.Single graph c.args.tables.now.nodes c.loop-item.item
     (λ y s. refl) c.number.result c.number.ensures c.args.admitted.now.order c.in-Some.column c.in-Some.scenario
     (omega (
       arith,
@@ -54,22 +54,22 @@ returns-in-Some-clause-first c =
 -- no column of the next item breaks V2, so none of one item more does
 pub loop-item-preserved : goal.loop-item-preserved
 loop-item-preserved c =
-    let g = c.args.admitted.now.graph in
-    let none : (i : ℕ) (s : Scenario) → IsScenario g s →
+    let graph = c.args.admitted.now.graph in
+    let none : (i : ℕ) (s : Scenario) → IsScenario graph s →
     is_double (columns_of c.args.tables.now.nodes c.loop-item.item) i s ≡ false =
     rw (← c.problem-problem.ensures.problem, ← c.columns_of-columns.ensures.columns)
     (rw c.in_default.is at c.in_ok-double.ensures.none) in
-    none_more Rule.Single g c.args.tables.now.nodes c.loop-item.item (λ y s. refl) c.loop-item.invariant none
+    none_more Rule.Single graph c.args.tables.now.nodes c.loop-item.item (λ y s. refl) c.loop-item.invariant none
 
 -- the next item is marked as sure, so none of one item more breaks V2
 pub loop-item-preserved-then-is_marked : goal.loop-item-preserved-then-is_marked
 loop-item-preserved-then-is_marked c =
-    let g = c.args.admitted.now.graph in
-    let below : c.loop-item.item < item_count g = omega (
+    let graph = c.args.admitted.now.graph in
+    let below : c.loop-item.item < item_count graph = omega (
       arith,
       c.loop-item-test.true,
       c.item_count-item-end.ensures,
       ap item_count c.problem-problem.ensures.problem,
     ) in
-    marked_more g c.args.tables.now.nodes Rule.Single c.args.marks.now c.requires.marks c.loop-item.item below
+    marked_more graph c.args.tables.now.nodes Rule.Single c.args.marks.now c.requires.marks c.loop-item.item below
     (sym c.if-is_marked.ensures) c.loop-item.invariant

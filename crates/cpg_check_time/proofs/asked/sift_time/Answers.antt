@@ -3,5 +3,6 @@ use Rattle.cpg_check_time.proofs.asked.sift_time.Goals as goal
 
 -- each of the four steps leaves the rows sieved rows of the tables
 pub returns : goal.returns
-returns c = λ count h. c.in_ok-sift_sends.ensures count
-    (c.in_ok-sift_starts.ensures count (c.in_ok-sift_producers.ensures count (c.in_ok-sift_inputs.ensures count h)))
+returns c = λ count rows_are. c.in_ok-sift_sends.ensures count
+    (c.in_ok-sift_starts.ensures count
+    (c.in_ok-sift_producers.ensures count (c.in_ok-sift_inputs.ensures count rows_are)))

@@ -13,16 +13,16 @@ use Rattle.cpg_check_time.proofs.delays.least_delay.Goals as goal
 -- even what the item's last column begins is done by the time, so no column is late
 pub returns-then-saturating_add-time : goal.returns-then-saturating_add-time
 returns-then-saturating_add-time c =
-    let g = c.args.admitted.now.graph in
+    let graph = c.args.admitted.now.graph in
     -- the sieved row of the item
     let row : IsSievedRow (columns_of c.args.tables.now.nodes c.args.item) c.index-rows-item.result =
     subst (IsSievedRow (columns_of c.args.tables.now.nodes c.args.item)) (sym c.index-rows-item.is)
     (c.requires.rows.each c.args.item c.index-rows-item.result c.requires.item) in
     -- no column is later than the row's last time, and the delay is never longer than the most
-    let most : IsMost g c.args.delay c.most.result = rw (← c.problem-problem.ensures.problem) c.most.ensures.most in
+    let most : IsMost graph c.args.delay c.most.result = rw (← c.problem-problem.ensures.problem) c.most.ensures.most in
     let early : c.index-rows-item.result.last + c.most.result ≤ c.args.column.now.time =
     omega (arith, c.if-saturating_add-time.true, c.saturating_add.ensures, c.requires.time) in
-    never_delays g c.args.column.now.cube c.args.delay c.args.column.now.time c.most.result
+    never_delays graph c.args.column.now.cube c.args.delay c.args.column.now.time c.most.result
     c.index-rows-item.result.last most (columns_of c.args.tables.now.nodes c.args.item) row.last early
 
 -- the row's columns are columns of the item, and of the graph
@@ -41,20 +41,21 @@ least_near-requires-clause-fits c = record { cube = c.requires.cube; delay = c.r
 -- a column is late only in scenarios in which both columns match
 pub least_near-requires-clause-near : goal.least_near-requires-clause-near
 least_near-requires-clause-near c =
-    λ s d t. delays_both c.args.admitted.now.graph c.args.column.now.cube c.args.delay c.args.column.now.time s d t
+    λ s d delayed. delays_both c.args.admitted.now.graph c.args.column.now.cube c.args.delay c.args.column.now.time s d
+    delayed
 
 -- the search went over all columns of the item that may be late, so its answer is the least for them all
 pub returns : goal.returns
 returns c =
-    let g = c.args.admitted.now.graph in
+    let graph = c.args.admitted.now.graph in
     let order = c.args.admitted.now.order in
     -- the sieved row of the item
     let row : IsSievedRow (columns_of c.args.tables.now.nodes c.args.item) c.index-rows-item.result =
     subst (IsSievedRow (columns_of c.args.tables.now.nodes c.args.item)) (sym c.index-rows-item.is)
     (c.requires.rows.each c.args.item c.index-rows-item.result c.requires.item) in
-    let first : IsFirst g order
-    (λ s. list_any (λ d. delays g c.args.column.now.cube c.args.delay c.args.column.now.time d s)
+    let first : IsFirst graph order
+    (λ s. list_any (λ d. delays graph c.args.column.now.cube c.args.delay c.args.column.now.time d s)
     (columns_of c.args.tables.now.nodes c.args.item)) c.in_ok-found.found =
     rw row.all at c.in_ok-found.ensures in
-    first_delay g c.args.column.now.cube c.args.delay c.args.column.now.time order
+    first_delay graph c.args.column.now.cube c.args.delay c.args.column.now.time order
     (columns_of c.args.tables.now.nodes c.args.item) c.in_ok-found.found first

@@ -27,17 +27,18 @@ returns-then-is_message c =
 -- late
 pub returns : goal.returns
 returns c =
-    let g = c.args.admitted.now.graph in
-    let off : is_message g c.args.edge ≡ false =
+    let graph = c.args.admitted.now.graph in
+    let off : is_message graph c.args.edge ≡ false =
     rw (← c.problem-problem.ensures.problem) (sym c.if-is_message.ensures) in
     -- the part matches where the column does and the source has the value
     let both : (s : Scenario) →
     matches c.in-Some.part s ≡ (matches c.args.column.now.cube s && matches c.in_ok-asked.asked s) =
     rw c.in-Some.is at c.in_ok-part.ensures.both in
-    let asked : (s : Scenario) → matches c.in_ok-asked.asked s ≡ is_asked g c.args.edge s =
+    let asked : (s : Scenario) → matches c.in_ok-asked.asked s ≡ is_asked graph c.args.edge s =
     rw (← c.problem-problem.ensures.problem) c.in_ok-asked.ensures.passed in
     -- the answer of the search for columns of the source that are late for the part
     let found = rw (c.source-process.ensures.source, c.problem-problem.ensures.problem) at c.in_ok-found-2.ensures in
-    lacks_source g c.args.admitted.now.order c.args.tables.now.nodes c.args.column.now c.args.edge c.in_ok-found-2.found
+    lacks_source graph c.args.admitted.now.order c.args.tables.now.nodes c.args.column.now c.args.edge
+    c.in_ok-found-2.found
     off c.in-Some.part
     (λ s. both s ∙ ap (λ b. matches c.args.column.now.cube s && b) (asked s)) found

@@ -29,11 +29,11 @@ met-requires-clause-room c =
 -- cube and the part match is the answer
 pub returns-clause-first : goal.returns-clause-first
 returns-clause-first c =
-    let g = c.args.problem.now in
-    let part : (s : Scenario) → IsScenario g s → matches c.in-Some.part s
-    ≡ (matches c.args.column.now.cube s && ends_after g c.args.process c.args.column.now.time c.args.time s) =
+    let graph = c.args.problem.now in
+    let part : (s : Scenario) → IsScenario graph s → matches c.in-Some.part s
+    ≡ (matches c.args.column.now.cube s && ends_after graph c.args.process c.args.column.now.time c.args.time s) =
     rw c.in-Some.is at c.in_ok-part.ensures.part in
-    λ order. first_same g order (λ s. matches c.args.cube.now s && matches c.in-Some.part s)
+    λ order. first_same graph order (λ s. matches c.args.cube.now s && matches c.in-Some.part s)
     (λ s. matches c.args.cube.now s && (matches c.args.column.now.cube s
-    && ends_after g c.args.process c.args.column.now.time c.args.time s)) c.in_ok-found.found
-    (λ s i. ap (λ b. matches c.args.cube.now s && b) (part s i)) (c.in_ok-found.ensures.first order)
+    && ends_after graph c.args.process c.args.column.now.time c.args.time s)) c.in_ok-found.found
+    (λ s lawful. ap (λ b. matches c.args.cube.now s && b) (part s lawful)) (c.in_ok-found.ensures.first order)

@@ -22,7 +22,7 @@ loop-place-init c =
     record {
       among = subst (λ xs. All (λ d. Contains c.args.row.now.columns.now d) (map at xs)) (sym empty)
           (All-nil (λ d. Contains c.args.row.now.columns.now d));
-      all = λ i k. absurd (Contains-nil i k);
+      all = λ i in_none. absurd (Contains-nil i in_none);
     }
 
 -- the column at the next place, if there is one, is found
@@ -32,7 +32,7 @@ loop-place-preserved c =
     let places = c.deref-place-items.result.now in
     let none : length columns ≤ get_or places c.loop-place.place-index 0 →
     map at c.push_column.new.found.items ≡ map at c.loop-place.found.items =
-    λ h. ap (map at) (c.in_ok-push_column.ensures.none h) in
+    λ past. ap (map at) (c.in_ok-push_column.ensures.none past) in
     record {
       among =
           among_more columns places c.loop-place.place-index 0 c.loop-place-test.true (map at c.loop-place.found.items)

@@ -19,13 +19,14 @@ pub least_of-requires-clause-order : goal.least_of-requires-clause-order
 least_of-requires-clause-order g c =
     rw (c.order-order.ensures.order, c.problem-problem.ensures.problem) (long_order c.order-order.ensures.admitted)
 
--- the columns near the cube are columns of the row
+-- the columns near the cube are columns of the row, and so columns as tables of the graph have them
 pub least_of-requires-clause-columns : goal.least_of-requires-clause-columns
 least_of-requires-clause-columns g c =
     rw (c.problem-problem.ensures.problem, c.as_slice.ensures.value)
     (all_unmapped (IsColumn c.args.admitted.now.graph) at c.in_ok-near.near.items
     (All-weaker (λ d. Contains c.args.row.now.columns.now d) (IsColumn c.args.admitted.now.graph)
-    (λ d k. All-contains (IsColumn c.args.admitted.now.graph) c.args.row.now.columns.now d c.requires.columns k)
+    (λ d member. All-contains
+    (IsColumn c.args.admitted.now.graph) c.args.row.now.columns.now d c.requires.columns member)
     (map at c.in_ok-near.near.items) c.in_ok-near.ensures.among))
 
 -- each column that can be as asked is among those of `meeting`, so the least scenario of these is the least of all
@@ -40,4 +41,4 @@ returns g c =
     c.in_ok-found.ensures in
     first_same graph order (λ s. list_any (λ d. asks d s) (map at c.in_ok-near.near.items))
     (λ s. list_any (λ d. asks d s) c.args.row.now.columns.now) c.in_ok-found.found
-    (λ s _. c.in_ok-near.ensures.same s (λ d. asks d s) (λ d t. c.requires.near s d t)) first
+    (λ s _. c.in_ok-near.ensures.same s (λ d. asks d s) (λ d asked. c.requires.near s d asked)) first

@@ -14,15 +14,16 @@ use Rattle.cpg_cluster.proofs.cluster.add_sender_frames.Goals as goal
 -- the frame of what the sender has noted is the one that its acts give, so there is room for it
 pub add_noted_frame-requires : goal.add_noted_frame-requires
 add_noted_frame-requires c =
-    let m = c.index-members-sender.result in
-    let has : HasNoted m c.args.item = subst (λ (m : Member). HasNoted m c.args.item) (sym c.index-members-sender.is)
-    (c.requires.noted m c.if-sender-members.true) in
+    let sender = c.index-members-sender.result in
+    let has : HasNoted sender c.args.item = subst (λ (m : Member). HasNoted m c.args.item)
+    (sym c.index-members-sender.is)
+    (c.requires.noted sender c.if-sender-members.true) in
     omega (
       arith,
       c.requires.room,
       length-append c.args.frames.now.items
           (frames_of_member c.args.members.now c.args.value c.args.item c.args.time c.args.sender),
-      ap (λ (l : List Frame). length l) (sender_frames c.args.members.now c.args.sender m c.args.value c.args.item
+      ap (λ (l : List Frame). length l) (sender_frames c.args.members.now c.args.sender sender c.args.value c.args.item
           c.args.time c.as_slice-noted.result.now c.if-sender-members.true
           c.index-members-sender.is has c.as_slice-noted.ensures.value),
     )
@@ -30,11 +31,13 @@ add_noted_frame-requires c =
 -- the frame of what the sender has noted is the one that its acts give
 pub returns-then-sender-members-clause-frames : goal.returns-then-sender-members-clause-frames
 returns-then-sender-members-clause-frames c =
-    let m = c.index-members-sender.result in
-    let has : HasNoted m c.args.item = subst (λ (m : Member). HasNoted m c.args.item) (sym c.index-members-sender.is)
-    (c.requires.noted m c.if-sender-members.true) in
+    let sender = c.index-members-sender.result in
+    let has : HasNoted sender c.args.item = subst (λ (m : Member). HasNoted m c.args.item)
+    (sym c.index-members-sender.is)
+    (c.requires.noted sender c.if-sender-members.true) in
     c.add_noted_frame.ensures.frames ∙ ap (λ (l : List Frame). c.args.frames.now.items ++ l)
-    (sender_frames c.args.members.now c.args.sender m c.args.value c.args.item c.args.time c.as_slice-noted.result.now
+    (sender_frames c.args.members.now c.args.sender sender c.args.value c.args.item c.args.time
+    c.as_slice-noted.result.now
     c.if-sender-members.true c.index-members-sender.is has
     c.as_slice-noted.ensures.value)
 

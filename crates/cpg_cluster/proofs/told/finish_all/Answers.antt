@@ -23,16 +23,17 @@ finished-requires c = (may_next c.loop-report.node.dispatcher c.args.ended.now c
 -- after it the others may be taken, and they lead where all did
 pub loop-report-preserved : goal.loop-report-preserved
 loop-report-preserved c =
-    let d = c.loop-report.node.dispatcher in
+    let before = c.loop-report.node.dispatcher in
     let es = c.args.ended.now in
-    let i = c.loop-report.report-index in
-    let may = may_next d es i blank c.loop-report-test.true c.loop-report.invariant.may in
-    let taken : c.finished.new.self.dispatcher ≡ finished d (get_or es i blank).1 =
+    let place = c.loop-report.report-index in
+    let may = may_next before es place blank c.loop-report-test.true c.loop-report.invariant.may in
+    let taken : c.finished.new.self.dispatcher ≡ finished before (get_or es place blank).1 =
     ap (λ (n : NodeState). n.dispatcher) c.finished.ensures in
     record {
-      may = subst (λ (x : Dispatcher). AllFinish x (drop (i + 1) es)) (sym taken) may.1;
-      is = ap (λ (x : Dispatcher). all_finished x (drop (i + 1) es)) taken
-          ∙ sym (ap (λ (rest : List (ℕ × Ended)). all_finished d rest) (drop_more es i blank c.loop-report-test.true))
+      may = subst (λ (x : Dispatcher). AllFinish x (drop (place + 1) es)) (sym taken) may.1;
+      is = ap (λ (x : Dispatcher). all_finished x (drop (place + 1) es)) taken
+          ∙ sym (ap (λ (rest : List (ℕ × Ended)). all_finished before rest)
+          (drop_more es place blank c.loop-report-test.true))
           ∙ c.loop-report.invariant.is;
       acts = ap (λ (n : NodeState). n.acts) c.finished.ensures ∙ c.loop-report.invariant.acts;
     }

@@ -16,11 +16,11 @@ pub loop-place-preserved : goal.loop-place-preserved
 loop-place-preserved c =
     let due = due_reports_of c.args.time in
     let runs = c.args.running.now in
-    let n = c.loop-place.place in
-    let in_runs : n < length runs = omega (arith, c.loop-place-test.true, c.requires.same) in
-    let given = c.planned_end-end.ensures ∙ ap (λ (o : Own). due o (get_or runs n None)) c.index-own-place.is in
+    let place = c.loop-place.place in
+    let in_runs : place < length runs = omega (arith, c.loop-place-test.true, c.requires.same) in
+    let given = c.planned_end-end.ensures ∙ ap (λ (o : Own). due o (get_or runs place None)) c.index-own-place.is in
     record {
-      ends = mapped_on (at c.args.time) due c.args.own.now runs n c.index-own-place.result None
+      ends = mapped_on (at c.args.time) due c.args.own.now runs place c.index-own-place.result None
           (option_to_list c.planned_end-end.result) c.loop-place.ends.items c.add_end.new.ends.items
           (c.args.ends.now.items ++ ends_by c.args.time c.args.own.now runs) c.loop-place-test.true in_runs given
           c.add_end.ensures.ends c.loop-place.invariant.ends;
@@ -32,10 +32,10 @@ pub add_end-requires : goal.add_end-requires
 add_end-requires c =
     let due = due_reports_of c.args.time in
     let runs = c.args.running.now in
-    let n = c.loop-place.place in
-    let in_runs : n < length runs = omega (arith, c.loop-place-test.true, c.requires.same) in
-    let given = c.planned_end-end.ensures ∙ ap (λ (o : Own). due o (get_or runs n None)) c.index-own-place.is in
-    let fits = mapped_fits (at c.args.time) due c.args.own.now runs n c.index-own-place.result None
+    let place = c.loop-place.place in
+    let in_runs : place < length runs = omega (arith, c.loop-place-test.true, c.requires.same) in
+    let given = c.planned_end-end.ensures ∙ ap (λ (o : Own). due o (get_or runs place None)) c.index-own-place.is in
+    let fits = mapped_fits (at c.args.time) due c.args.own.now runs place c.index-own-place.result None
     (option_to_list c.planned_end-end.result) c.loop-place.ends.items
     (c.args.ends.now.items ++ ends_by c.args.time c.args.own.now runs) (vec_capacity c.args.ends.now)
     c.loop-place-test.true in_runs given c.loop-place.invariant.ends c.requires.room in

@@ -12,16 +12,17 @@ use Rattle.cpg_cluster.proofs.told.gather_reports.Goals as goal
 -- the report of the next process is added to those before
 pub loop-place-preserved : goal.loop-place-preserved
 loop-place-preserved c =
-    let w : World = record { scenario = c.args.scenario.now; lengths = c.args.lengths.now } in
-    let reports = report_of c.args.problem.now w c.args.time in
+    let world : World = record { scenario = c.args.scenario.now; lengths = c.args.lengths.now } in
+    let reports = report_of c.args.problem.now world c.args.time in
     let runs = c.args.running.now in
-    let n = c.loop-place.place in
-    let in_runs : n < length runs = omega (arith, c.loop-place-test.true, c.requires.same) in
-    let given = c.report_of-report.ensures ∙ ap (λ (o : Own). reports o (get_or runs n None)) c.index-own-place.is in
+    let place = c.loop-place.place in
+    let in_runs : place < length runs = omega (arith, c.loop-place-test.true, c.requires.same) in
+    let given = c.report_of-report.ensures
+    ∙ ap (λ (o : Own). reports o (get_or runs place None)) c.index-own-place.is in
     record {
-      reports = gathered_on reports c.args.own.now runs n c.index-own-place.result None
+      reports = gathered_on reports c.args.own.now runs place c.index-own-place.result None
           (option_to_list c.report_of-report.result) c.loop-place.reports.items c.add_report.new.reports.items
-          (c.args.reports.now.items ++ reports_by c.args.problem.now w c.args.time c.args.own.now runs)
+          (c.args.reports.now.items ++ reports_by c.args.problem.now world c.args.time c.args.own.now runs)
           c.loop-place-test.true in_runs given c.add_report.ensures.reports c.loop-place.invariant.reports;
       room = c.add_report.ensures.room ∙ c.loop-place.invariant.room;
     }
@@ -29,15 +30,16 @@ loop-place-preserved c =
 -- the reports of all processes have room, so that of the next one has
 pub add_report-requires : goal.add_report-requires
 add_report-requires c =
-    let w : World = record { scenario = c.args.scenario.now; lengths = c.args.lengths.now } in
-    let reports = report_of c.args.problem.now w c.args.time in
+    let world : World = record { scenario = c.args.scenario.now; lengths = c.args.lengths.now } in
+    let reports = report_of c.args.problem.now world c.args.time in
     let runs = c.args.running.now in
-    let n = c.loop-place.place in
-    let in_runs : n < length runs = omega (arith, c.loop-place-test.true, c.requires.same) in
-    let given = c.report_of-report.ensures ∙ ap (λ (o : Own). reports o (get_or runs n None)) c.index-own-place.is in
-    let fits = gathered_fits reports c.args.own.now runs n c.index-own-place.result None
+    let place = c.loop-place.place in
+    let in_runs : place < length runs = omega (arith, c.loop-place-test.true, c.requires.same) in
+    let given = c.report_of-report.ensures
+    ∙ ap (λ (o : Own). reports o (get_or runs place None)) c.index-own-place.is in
+    let fits = gathered_fits reports c.args.own.now runs place c.index-own-place.result None
     (option_to_list c.report_of-report.result) c.loop-place.reports.items
-    (c.args.reports.now.items ++ reports_by c.args.problem.now w c.args.time c.args.own.now runs)
+    (c.args.reports.now.items ++ reports_by c.args.problem.now world c.args.time c.args.own.now runs)
     (vec_capacity c.args.reports.now) c.loop-place-test.true in_runs given c.loop-place.invariant.reports
     c.requires.room in
     omega (arith, fits, c.loop-place.reports.ok.0, c.loop-place.invariant.room)

@@ -27,12 +27,12 @@ tested members member time other i item d r l o is e =
 -- the member waits on this one and on none before it, so this is the least
 pub returns-then-waits_between : goal.returns-then-waits_between
 returns-then-waits_between c d =
-    let i = c.loop-sender.sender-index in
+    let place = c.loop-sender.sender-index in
     ap Waits c.loop-sender.invariant.other
     ∙ first_waits (λ b. waits_between c.args.time c.args.member.now b (get_or c.args.members.now b d))
-    (length c.args.members.now) i c.loop-sender-test.true
+    (length c.args.members.now) place c.loop-sender-test.true
     (λ j h. c.loop-sender.invariant.none j d h)
-    (tested c.args.members.now c.args.member.now c.args.time c.loop-sender.other i c.sender-item.result d
+    (tested c.args.members.now c.args.member.now c.args.time c.loop-sender.other place c.sender-item.result d
     c.waits_between.result c.loop-sender-test.true c.loop-sender.invariant.other c.sender-item.is
     c.waits_between.ensures ∙ c.if-waits_between.true)
 

@@ -18,11 +18,12 @@ waits_on-requires c = (index_at c.args.member.now.node.dispatcher.table.hears c.
 -- exactly if a column of such a row does.
 pub returns : goal.returns
 returns c =
-    let m = c.args.member.now in
+    let member = c.args.member.now in
     c.waits_on.ensures ∙ any_index c.args.time c.next.result c.args.sender.now.slot c.args.other
-    m.node.dispatcher.table.hears m.senders.items c.as_slice.result.now
-    (index_at m.node.dispatcher.table.hears m.senders.items (length m.arrivals.items) m.arrivals.items c.args.other
+    member.node.dispatcher.table.hears member.senders.items c.as_slice.result.now
+    (index_at member.node.dispatcher.table.hears member.senders.items (length member.arrivals.items)
+    member.arrivals.items c.args.other
     c.index-times.result.now c.as_slice.result.now c.requires.indexed c.requires.other
     c.index-times.ensures c.as_slice.ensures.value)
     ∙ ap (λ comes. list_any (λ w. w) (zip_with (waits_by c.args.other c.args.time comes c.args.sender.now.slot)
-    m.node.dispatcher.table.hears m.senders.items)) c.next.ensures.next
+    member.node.dispatcher.table.hears member.senders.items)) c.next.ensures.next

@@ -11,8 +11,8 @@ returns-then-begins_none c =
 
 -- what a test says that is false isn't so: the first byte isn't ff
 is_not : (n : ℕ) (t : Bool) → t ≡ false → (n ≡ 255 → IsTrue t) → n ≡ 255 → ⊥
-is_not n true f h e = cc
-is_not n false f h e = let k : IsTrue false = h e in cc
+is_not n true is_false means is_ff = cc
+is_not n false is_false means is_ff = let found : IsTrue false = means is_ff in cc
 
 -- bytes that don't begin with ff may only be a number up to 10^9, so the test of a deadline is then the one for that
 pub returns-else-begins_none : goal.returns-else-begins_none

@@ -8,9 +8,9 @@ use Rattle.cpg_codec.proofs.field_reading.letters_of.Goals as goal
 -- the next letter can't be read; by the invariant reading all of them then fails in the same way
 pub returns-in_err-letter : goal.returns-in_err-letter
 returns-in_err-letter c =
-    let p = err_from_is_err_and c.from_residual.result c.from_residual.ensures.1 in
-    rw (p.1, p.2) (times_end (byte_by is_name_byte) c.in_err-letter.field-0.0 c.loop.letters.items c.args.count
-    c.loop.counter c.loop.rest.now
+    let failure = err_from_is_err_and c.from_residual.result c.from_residual.ensures.1 in
+    rw (failure.1, failure.2) (times_end (byte_by is_name_byte) c.in_err-letter.field-0.0 c.loop.letters.items
+    c.args.count c.loop.counter c.loop.rest.now
     (read_repeated (byte_by is_name_byte) c.args.count c.args.bytes.now) c.loop-test.true c.in_err-letter.ensures
     c.loop.invariant)
 

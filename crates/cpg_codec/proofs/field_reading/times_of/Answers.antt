@@ -8,8 +8,8 @@ use Rattle.cpg_codec.proofs.field_reading.times_of.Goals as goal
 -- the next time can't be read; by the invariant reading all of them then fails in the same way
 pub returns-in_err-time : goal.returns-in_err-time
 returns-in_err-time c =
-    let p = err_from_is_err_and c.from_residual.result c.from_residual.ensures.1 in
-    rw (p.1, p.2)
+    let failure = err_from_is_err_and c.from_residual.result c.from_residual.ensures.1 in
+    rw (failure.1, failure.2)
     (times_end read_time c.in_err-time.field-0.0 c.loop.times.items c.args.count c.loop.counter c.loop.rest.now
     (read_repeated read_time c.args.count c.args.bytes.now) c.loop-test.true c.in_err-time.ensures c.loop.invariant)
 

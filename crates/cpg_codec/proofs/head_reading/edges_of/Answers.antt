@@ -8,9 +8,9 @@ use Rattle.cpg_codec.proofs.head_reading.edges_of.Goals as goal
 -- the next edge can't be read; by the invariant reading all of them then fails in the same way
 pub returns-in_err-edge : goal.returns-in_err-edge
 returns-in_err-edge c =
-    let p = err_from_is_err_and c.from_residual-in_err-edge.result c.from_residual-in_err-edge.ensures.1 in
-    rw (p.1, p.2) (times_end (read_edge c.args.processes) c.in_err-edge.field-0.0 c.loop.edges.items c.args.count
-    c.loop.counter c.loop.rest.now
+    let failure = err_from_is_err_and c.from_residual-in_err-edge.result c.from_residual-in_err-edge.ensures.1 in
+    rw (failure.1, failure.2) (times_end (read_edge c.args.processes) c.in_err-edge.field-0.0 c.loop.edges.items
+    c.args.count c.loop.counter c.loop.rest.now
     (read_repeated (read_edge c.args.processes) c.args.count c.args.bytes.now) c.loop-test.true c.in_err-edge.ensures
     c.loop.invariant)
 

@@ -8,8 +8,8 @@ use Rattle.cpg_codec.proofs.head_reading.names_of.Goals as goal
 -- the next name can't be read; by the invariant reading all of them then fails in the same way
 pub returns-in_err-name : goal.returns-in_err-name
 returns-in_err-name c =
-    let p = err_from_is_err_and c.from_residual-in_err-name.result c.from_residual-in_err-name.ensures.1 in
-    rw (p.1, p.2)
+    let failure = err_from_is_err_and c.from_residual-in_err-name.result c.from_residual-in_err-name.ensures.1 in
+    rw (failure.1, failure.2)
     (times_end read_name c.in_err-name.field-0.0 c.loop.names.items c.args.count c.loop.counter c.loop.rest.now
     (read_repeated read_name c.args.count c.args.bytes.now) c.loop-test.true c.in_err-name.ensures c.loop.invariant)
 

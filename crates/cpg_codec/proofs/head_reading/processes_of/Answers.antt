@@ -22,8 +22,8 @@ none_kept false = refl
 pub loop-init : goal.loop-init
 unfolding read_processes
 loop-init c = record {
-  so_far = let z : c.args.count - 0 ≡ c.args.count = omega arith in
-      rw (c.in_ok-processes.ensures.items, z) (nothing_in_front _);
+  so_far = let all_left : c.args.count - 0 ≡ c.args.count = omega arith in
+      rw (c.in_ok-processes.ensures.items, all_left) (nothing_in_front _);
   few = omega arith;
   kept = rw (c.in_ok-processes.ensures.items, c.new-extras.ensures.items) (none_kept (c.args.version == 2));
 }
@@ -31,8 +31,9 @@ loop-init c = record {
 -- the next process can't be read; by the invariant reading all of them then fails in the same way
 pub returns-in_err-process-clause-gives : goal.returns-in_err-process-clause-gives
 returns-in_err-process-clause-gives c =
-    let p = err_from_is_err_and c.from_residual-in_err-process.result c.from_residual-in_err-process.ensures.1 in
-    rw (p.1, p.2) (ends step (λ (left : ℕ) ones. read_process c.args.version c.args.faults c.args.nodes ones)
+    let failure = err_from_is_err_and c.from_residual-in_err-process.result c.from_residual-in_err-process.ensures.1 in
+    rw (failure.1, failure.2)
+    (ends step (λ (left : ℕ) ones. read_process c.args.version c.args.faults c.args.nodes ones)
     c.in_err-process.field-0.0 (written_by c.loop.processes.items c.loop.extras.items)
     (down (c.args.count - c.loop.counter)) (c.args.count - (c.loop.counter + 1))
     (down (c.args.count - (c.loop.counter + 1))) c.loop.ones c.loop.rest.now
@@ -42,33 +43,33 @@ returns-in_err-process-clause-gives c =
 
 -- a process has at most one condition, so there are still no more conditions than processes
 few_more : (ones b counter : ℕ) (t : Bool) → b ≡ bit t → ones ≤ counter → ones + b ≤ counter + 1
-few_more ones b counter true e h = omega arith
-few_more ones b counter false e h = omega arith
+few_more ones b counter true is_bit few = omega arith
+few_more ones b counter false is_bit few = omega arith
 
 -- the next process is read with its extras; by the invariant reading all goes on with the bytes after it
 pub loop-preserved : goal.loop-preserved
 loop-preserved c =
-    let q = c.in_ok-process.process in
-    let o = c.in_ok-process.extra in
-    let w = written_push (c.args.version == 2) c.loop.processes.items c.loop.extras.items q o
+    let process = c.in_ok-process.process in
+    let extra = c.in_ok-process.extra in
+    let pushed = written_push (c.args.version == 2) c.loop.processes.items c.loop.extras.items process extra
     c.in_ok-process.ensures.kind c.loop.invariant.kept in
     -- reading goes on with the process and its extras
-    let g = goes_on step (λ (left : ℕ) ones. read_process c.args.version c.args.faults c.args.nodes ones)
+    let going_on = goes_on step (λ (left : ℕ) ones. read_process c.args.version c.args.faults c.args.nodes ones)
     (written_by c.loop.processes.items c.loop.extras.items)
     (down (c.args.count - c.loop.counter)) (c.args.count - (c.loop.counter + 1))
     (down (c.args.count - (c.loop.counter + 1))) c.loop.ones c.loop.rest.now
-    (written_with q o) c.in_ok-process.after.now
+    (written_with process extra) c.in_ok-process.after.now
     (read_processes c.args.version c.args.faults c.args.nodes c.args.count c.args.bytes.now)
     (down_more c.args.count c.loop.counter c.loop-test.true) c.in_ok-process.ensures.gives
     c.loop.invariant.so_far in
     -- `few`: a condition more at most; `kept`: an extra more exactly in version 2
     record {
-      so_far = rw (c.in_ok-push.ensures.items, c.in_ok-push_extra.ensures, w, c.bit_of-ones.ensures) g;
-      few = few_more c.loop.ones c.bit_of-ones.result c.loop.counter q.condition c.bit_of-ones.ensures
+      so_far = rw (c.in_ok-push.ensures.items, c.in_ok-push_extra.ensures, pushed, c.bit_of-ones.ensures) going_on;
+      few = few_more c.loop.ones c.bit_of-ones.result c.loop.counter process.condition c.bit_of-ones.ensures
           c.loop.invariant.few;
       kept = rw (c.in_ok-push.ensures.items, c.in_ok-push_extra.ensures)
-          (kept_push (c.args.version == 2) c.loop.processes.items c.loop.extras.items q o c.in_ok-process.ensures.kind
-          c.loop.invariant.kept);
+          (kept_push (c.args.version == 2) c.loop.processes.items c.loop.extras.items process extra
+          c.in_ok-process.ensures.kind c.loop.invariant.kept);
     }
 
 -- no process is left, so those so far are all

@@ -13,10 +13,11 @@ loop-from-preserved g c = record {
   kept = c.in_ok-put.ensures.cause.kept ∙ c.loop-from.invariant.kept;
 }
 
--- the sink took a proper prefix of the edges before this one and of this one, and so one of all
+-- this edge failed: the edges before it are put, and the sink took a proper prefix of the bytes still held and this
+-- edge; in all that is a proper prefix of the bytes held first and all edges
 pub returns-in_err-put-clause-put : goal.returns-in_err-put-clause-put
 returns-in_err-put-clause-put g c =
-    let p = err_from_is_err_and c.from_residual.result c.from_residual.ensures.1 in
-    Puts-failed _ _ _ _ _ c.from_residual.result p.0 p.1
+    let failure = err_from_is_err_and c.from_residual.result c.from_residual.ensures.1 in
+    Puts-failed _ _ _ _ _ c.from_residual.result failure.0 failure.1
     (puts_fail edge_bytes _ _ _ _ _ (c.args.edges.now) (c.loop-from.from-index)
     ((0, 0)) c.loop-from-test.true c.loop-from.invariant.put c.in_err-put.ensures.put)

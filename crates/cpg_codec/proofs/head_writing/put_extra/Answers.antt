@@ -5,13 +5,14 @@ use Rattle.cpg_codec.specs.Spelling.{deadline_number}
 use Rattle.cpg_codec.proofs.Puts.{Puts-then, Puts-first}
 use Rattle.cpg_codec.proofs.head_writing.put_extra.Goals as goal
 
--- the release failed: the sink took only a proper prefix of what the buffer held and of the release, and so of what the
--- buffer held and of both numbers
+-- the release failed: the sink took a proper prefix of the held bytes and the release, and so one of the held bytes and
+-- both numbers
 pub returns-in_err-put_long-clause-put : goal.returns-in_err-put_long-clause-put
 returns-in_err-put_long-clause-put g c =
-    let p = err_from_is_err_and c.from_residual.result c.from_residual.ensures.1 in
+    let failure = err_from_is_err_and c.from_residual.result c.from_residual.ensures.1 in
     rw c.in-Some.is (Puts-first _ _ _ _ (to_be_bytes w64 c.in-Some.extra.release) (to_be_bytes w64
-    (deadline_number c.in-Some.extra.deadline)) c.from_residual.result p.0 p.1 c.in_err-put_long.ensures.put)
+    (deadline_number c.in-Some.extra.deadline)) c.from_residual.result failure.0 failure.1
+    c.in_err-put_long.ensures.put)
 
 -- the release and the deadline are put one after another
 pub returns-clause-put : goal.returns-clause-put

@@ -13,21 +13,23 @@ pub put_counted_edges-requires-clause-short : goal.put_counted_edges-requires-cl
 put_counted_edges-requires-clause-short g c =
     rw c.edges.ensures.edges (short_edges c.args.head.now c.edges.ensures.within)
 
--- the sink took only a proper prefix of the count, with which the graph begins
+-- the count failed: the sink took a proper prefix of the held bytes and the count, and so one of the held bytes and the
+-- graph
 pub returns-in_err-put-clause-put : goal.returns-in_err-put-clause-put
 returns-in_err-put-clause-put g c =
-    let p = err_from_is_err_and c.from_residual.result c.from_residual.ensures.1 in
+    let failure = err_from_is_err_and c.from_residual.result c.from_residual.ensures.1 in
     (Puts-first _ _ _ _ (byte (length c.args.head.now.processes))
     ((flat_map process_bytes (written c.args.head.now)) ++ (to_be_bytes w16 (length c.args.head.now.edges)
-    ++ flat_map edge_bytes c.args.head.now.edges)) c.from_residual.result p.0 p.1
+    ++ flat_map edge_bytes c.args.head.now.edges)) c.from_residual.result failure.0 failure.1
     (rw c.processes.ensures.processes at c.in_err-put.ensures.put))
 
--- the count is put, and of the processes the sink took a proper prefix; together that is one of the graph
+-- the processes failed after the count was put: the sink took a proper prefix of the bytes still held and the
+-- processes; in all that is a proper prefix of the bytes held first and the graph
 pub returns-in_err-put_processes-clause-put : goal.returns-in_err-put_processes-clause-put
 returns-in_err-put_processes-clause-put g c =
-    let p = err_from_is_err_and c.from_residual-in_err-put_processes.result
+    let failure = err_from_is_err_and c.from_residual-in_err-put_processes.result
     c.from_residual-in_err-put_processes.ensures.1 in
-    (Puts-failed _ _ _ _ _ c.from_residual-in_err-put_processes.result p.0 p.1
+    (Puts-failed _ _ _ _ _ c.from_residual-in_err-put_processes.result failure.0 failure.1
     (fails_second _ _ _ _ _ (byte (length c.args.head.now.processes))
     ((flat_map process_bytes (written c.args.head.now))
     ++ (to_be_bytes w16 (length c.args.head.now.edges) ++ flat_map edge_bytes c.args.head.now.edges))

@@ -13,10 +13,11 @@ loop-name-preserved g c = record {
   kept = c.in_ok-put_name.ensures.cause.kept ∙ c.loop-name.invariant.kept;
 }
 
--- the sink took a proper prefix of the names before this one and of this one, and so one of all
+-- this name failed: the names before it are put, and the sink took a proper prefix of the bytes still held and this
+-- name; in all that is a proper prefix of the bytes held first and all names
 pub returns-in_err-put_name-clause-put : goal.returns-in_err-put_name-clause-put
 returns-in_err-put_name-clause-put g c =
-    let p = err_from_is_err_and c.from_residual.result c.from_residual.ensures.1 in
-    Puts-failed _ _ _ _ _ c.from_residual.result p.0 p.1
+    let failure = err_from_is_err_and c.from_residual.result c.from_residual.ensures.1 in
+    Puts-failed _ _ _ _ _ c.from_residual.result failure.0 failure.1
     (item_fails name_bytes _ _ _ _ _ c.args.names.now c.loop-name.name-index c.name-item.result c.name-item.is
     c.loop-name-test.true c.loop-name.invariant.put c.in_err-put_name.ensures.put)

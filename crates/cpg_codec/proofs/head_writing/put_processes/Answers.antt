@@ -21,12 +21,13 @@ loop-number-preserved g c =
       kept = c.in_ok-put_process.ensures.cause.kept ∙ c.loop-number.invariant.kept;
     }
 
--- the sink took a proper prefix of the processes before this one and of this one, and so one of all
+-- this process failed: the processes before it are put, and the sink took a proper prefix of the bytes still held and
+-- this process; in all that is a proper prefix of the bytes held first and all processes
 pub returns-in_err-put_process-clause-put : goal.returns-in_err-put_process-clause-put
 returns-in_err-put_process-clause-put g c =
-    let p = err_from_is_err_and c.from_residual.result c.from_residual.ensures.1 in
+    let failure = err_from_is_err_and c.from_residual.result c.from_residual.ensures.1 in
     let lt = rw c.processes-processes.ensures.processes at c.loop-number-test.true in
-    Puts-failed _ _ _ _ _ c.from_residual.result p.0 p.1
+    Puts-failed _ _ _ _ _ c.from_residual.result failure.0 failure.1
     (item_fails process_bytes _ _ _ _ _ (written c.args.head.now) c.loop-number.number
     (record { process = c.index-processes-number.result; extra = c.extra_of-extra.result })
     (written_at c.args.head.now c.loop-number.number c.index-processes-number.result c.extra_of-extra.result

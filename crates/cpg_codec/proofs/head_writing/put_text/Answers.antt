@@ -5,12 +5,13 @@ use Rattle.cpg_codec.specs.Spelling.{byte}
 use Rattle.cpg_codec.proofs.Puts.{Puts-then, Puts-first}
 use Rattle.cpg_codec.proofs.head_writing.put_text.Goals as goal
 
--- the sink took only a proper prefix of the length, with which the name begins
+-- the length failed: the sink took a proper prefix of the held bytes and the length, and so one of the held bytes and
+-- the name
 pub returns-in_err-put-clause-put : goal.returns-in_err-put-clause-put
 returns-in_err-put-clause-put g c =
-    let p = err_from_is_err_and c.from_residual.result c.from_residual.ensures.1 in
+    let failure = err_from_is_err_and c.from_residual.result c.from_residual.ensures.1 in
     Puts-first _ _ _ _ (byte (length c.args.text.now))
-    (c.args.text.now) c.from_residual.result p.0 p.1 c.in_err-put.ensures.put
+    (c.args.text.now) c.from_residual.result failure.0 failure.1 c.in_err-put.ensures.put
 
 -- the byte of the length is put first, and then the text
 pub returns-clause-put : goal.returns-clause-put

@@ -13,10 +13,11 @@ loop-time-preserved g c = record {
   kept = c.in_ok-put_long.ensures.cause.kept ∙ c.loop-time.invariant.kept;
 }
 
--- the sink took a proper prefix of the times before this one and of this one, and so one of all
+-- this time failed: the times before it are put, and the sink took a proper prefix of the bytes still held and this
+-- time; in all that is a proper prefix of the bytes held first and all times
 pub returns-in_err-put_long-clause-put : goal.returns-in_err-put_long-clause-put
 returns-in_err-put_long-clause-put g c =
-    let p = err_from_is_err_and c.from_residual.result c.from_residual.ensures.1 in
-    Puts-failed _ _ _ _ _ c.from_residual.result p.0 p.1
+    let failure = err_from_is_err_and c.from_residual.result c.from_residual.ensures.1 in
+    Puts-failed _ _ _ _ _ c.from_residual.result failure.0 failure.1
     (puts_fail (to_be_bytes w64) _ _ _ _ _ (c.args.times.now) (c.loop-time.time-index)
     (0) c.loop-time-test.true c.loop-time.invariant.put c.in_err-put_long.ensures.put)

@@ -6,12 +6,13 @@ use Rattle.std.specs.Int.{w64, to_be_bytes}
 use Rattle.cpg_codec.proofs.Puts.{Puts-then, Puts-first}
 use Rattle.cpg_codec.proofs.head_writing.put_timing.Goals as goal
 
--- the sink took only a proper prefix of the times, with which the timing begins
+-- the times failed: the sink took a proper prefix of the held bytes and the times, and so one of the held bytes and the
+-- timing
 pub returns-in_err-put_times-clause-put : goal.returns-in_err-put_times-clause-put
 returns-in_err-put_times-clause-put g c =
-    let p = err_from_is_err_and c.from_residual.result c.from_residual.ensures.1 in
+    let failure = err_from_is_err_and c.from_residual.result c.from_residual.ensures.1 in
     Puts-first _ _ _ _ (flat_map (to_be_bytes w64) c.args.times.now)
-    (extra_bytes c.args.extra) c.from_residual.result p.0 p.1 c.in_err-put_times.ensures.put
+    (extra_bytes c.args.extra) c.from_residual.result failure.0 failure.1 c.in_err-put_times.ensures.put
 
 -- the times are put first, and then the extra
 pub returns-clause-put : goal.returns-clause-put

@@ -10,9 +10,9 @@ use Rattle.cpg_codec.proofs.row_reading.columns_of.Goals as goal
 -- the next column can't be read; by the invariant reading all of them then fails in the same way
 pub returns-in_err-column-clause-gives : goal.returns-in_err-column-clause-gives
 returns-in_err-column-clause-gives c =
-    let p = err_from_is_err_and c.from_residual-in_err-column.result c.from_residual-in_err-column.ensures.1 in
-    rw (p.1, p.2) (times_end (read_column c.args.space.now) c.in_err-column.field-0.0 c.loop.columns.items c.args.count
-    c.loop.counter c.loop.rest.now
+    let failure = err_from_is_err_and c.from_residual-in_err-column.result c.from_residual-in_err-column.ensures.1 in
+    rw (failure.1, failure.2) (times_end (read_column c.args.space.now) c.in_err-column.field-0.0 c.loop.columns.items
+    c.args.count c.loop.counter c.loop.rest.now
     (read_repeated (read_column c.args.space.now) c.args.count c.args.bytes.now) c.loop-test.true
     c.in_err-column.ensures c.loop.invariant.so_far)
 

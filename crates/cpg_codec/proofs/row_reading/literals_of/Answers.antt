@@ -14,15 +14,15 @@ step least x = suc x.variable
 -- before the loop no literal is read, so all of them are left to read
 pub loop-done-init : goal.loop-done-init
 unfolding read_literals
-loop-done-init c = let z : c.args.count - 0 ≡ c.args.count = omega arith in
-    rw (c.in_ok-literals.ensures.items, z) (nothing_in_front _)
+loop-done-init c = let all_left : c.args.count - 0 ≡ c.args.count = omega arith in
+    rw (c.in_ok-literals.ensures.items, all_left) (nothing_in_front _)
 
 -- the next literal can't be read; by the invariant reading all of them then fails in the same way
 pub returns-in_err-literal : goal.returns-in_err-literal
 returns-in_err-literal c =
-    let p = err_from_is_err_and c.from_residual-in_err-literal.result c.from_residual-in_err-literal.ensures.1 in
-    rw (p.1, p.2) (ends step (read_literal c.args.space.now) c.in_err-literal.field-0.0 c.loop-done.literals.items
-    (down (c.args.count - c.loop-done.done)) (c.args.count - (c.loop-done.done + 1))
+    let failure = err_from_is_err_and c.from_residual-in_err-literal.result c.from_residual-in_err-literal.ensures.1 in
+    rw (failure.1, failure.2) (ends step (read_literal c.args.space.now) c.in_err-literal.field-0.0
+    c.loop-done.literals.items (down (c.args.count - c.loop-done.done)) (c.args.count - (c.loop-done.done + 1))
     (down (c.args.count - (c.loop-done.done + 1))) c.loop-done.least c.loop-done.rest.now
     (read_literals c.args.space.now c.args.count c.args.bytes.now)
     (down_more c.args.count c.loop-done.done c.loop-done-test.true) c.in_err-literal.ensures c.loop-done.invariant)
@@ -30,15 +30,15 @@ returns-in_err-literal c =
 -- the next literal is read, and the least variable is now one above its own; by the invariant reading all goes on
 pub loop-done-preserved : goal.loop-done-preserved
 loop-done-preserved c =
-    let q = c.in_ok-literal.literal in
-    let g = goes_on step (read_literal c.args.space.now) c.loop-done.literals.items
+    let literal = c.in_ok-literal.literal in
+    let going_on = goes_on step (read_literal c.args.space.now) c.loop-done.literals.items
     (down (c.args.count - c.loop-done.done)) (c.args.count - (c.loop-done.done + 1))
-    (down (c.args.count - (c.loop-done.done + 1))) c.loop-done.least c.loop-done.rest.now q
+    (down (c.args.count - (c.loop-done.done + 1))) c.loop-done.least c.loop-done.rest.now literal
     c.in_ok-literal.after.now
     (read_literals c.args.space.now c.args.count c.args.bytes.now)
     (down_more c.args.count c.loop-done.done c.loop-done-test.true) c.in_ok-literal.ensures c.loop-done.invariant in
-    let one : q.variable + 1 ≡ suc q.variable = omega arith in
-    rw (c.in_ok-push.ensures.items, one) g
+    let one : literal.variable + 1 ≡ suc literal.variable = omega arith in
+    rw (c.in_ok-push.ensures.items, one) going_on
 
 -- no literal is left, so those so far are all
 pub returns : goal.returns

@@ -33,16 +33,16 @@ loop-item-init c = record {
 -- the row of the next item is read; by the invariant reading all goes on with the bytes after it
 pub loop-item-preserved : goal.loop-item-preserved
 loop-item-preserved c =
-    let q = c.in_ok-row.row in
-    let g = goes_on step (read_row c.args.space.now) c.loop-item.rows.items
+    let row = c.in_ok-row.row in
+    let going_on = goes_on step (read_row c.args.space.now) c.loop-item.rows.items
     (drop c.loop-item.item-index c.args.items.now) (get_or c.args.items.now c.loop-item.item-index 0)
-    (drop (c.loop-item.item-index + 1) c.args.items.now) c.loop-item.total c.loop-item.unread q c.next_row.new.unread
+    (drop (c.loop-item.item-index + 1) c.args.items.now) c.loop-item.total c.loop-item.unread row c.next_row.new.unread
     (read_rows c.args.space.now c.args.items.now c.args.columns_read c.args.unread.now)
     (drop_more c.args.items.now c.loop-item.item-index c.loop-item-test.true) c.in_ok-row.ensures.gives
     c.loop-item.invariant.so_far in
     record {
-      so_far = rw (c.in_ok-push.ensures.items, c.in_ok-row.ensures.total.0) g;
-      total = rw (c.in_ok-push.ensures.items, columns_push c.loop-item.rows.items q)
+      so_far = rw (c.in_ok-push.ensures.items, c.in_ok-row.ensures.total.0) going_on;
+      total = rw (c.in_ok-push.ensures.items, columns_push c.loop-item.rows.items row)
           (omega (arith, c.in_ok-row.ensures.total.0, c.loop-item.invariant.total));
       few = c.in_ok-row.ensures.total.1;
     }

@@ -14,11 +14,12 @@ loop-literal-preserved g c = record {
   kept = c.in_ok-put.ensures.cause.kept ∙ c.loop-literal.invariant.kept;
 }
 
--- the sink took a proper prefix of the literals before this one and of this one, and so one of all
+-- this literal failed: the literals before it are put, and the sink took a proper prefix of the bytes still held and
+-- this literal; in all that is a proper prefix of the bytes held first and all literals
 pub returns-in_err-put-clause-put : goal.returns-in_err-put-clause-put
 returns-in_err-put-clause-put g c =
-    let p = err_from_is_err_and c.from_residual.result c.from_residual.ensures.1 in
-    Puts-failed _ _ _ _ _ c.from_residual.result p.0 p.1
+    let failure = err_from_is_err_and c.from_residual.result c.from_residual.ensures.1 in
+    Puts-failed _ _ _ _ _ c.from_residual.result failure.0 failure.1
     (puts_fail literal_bytes _ _ _ _ _ (c.args.literals.now) (c.loop-literal.literal-index)
     (record { variable = 0; low = 0; high = 0 }) c.loop-literal-test.true c.loop-literal.invariant.put
     c.in_err-put.ensures.put)

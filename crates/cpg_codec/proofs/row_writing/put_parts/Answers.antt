@@ -7,13 +7,14 @@ use Rattle.std.specs.Int.{w64, to_be_bytes}
 use Rattle.cpg_codec.proofs.Puts.{Puts-then, Puts-first}
 use Rattle.cpg_codec.proofs.row_writing.put_parts.Goals as goal
 
--- the sink took only a proper prefix of the time, with which the column begins
+-- the time failed: the sink took a proper prefix of the held bytes and the time, and so one of the held bytes and the
+-- column
 pub returns-in_err-put_long-clause-put : goal.returns-in_err-put_long-clause-put
 returns-in_err-put_long-clause-put g c =
-    let p = err_from_is_err_and c.from_residual.result c.from_residual.ensures.1 in
+    let failure = err_from_is_err_and c.from_residual.result c.from_residual.ensures.1 in
     Puts-first _ _ _ _ (to_be_bytes w64 c.args.time)
-    (byte (length c.args.literals.now) ++ flat_map literal_bytes c.args.literals.now) c.from_residual.result p.0 p.1
-    c.in_err-put_long.ensures.put
+    (byte (length c.args.literals.now) ++ flat_map literal_bytes c.args.literals.now) c.from_residual.result failure.0
+    failure.1 c.in_err-put_long.ensures.put
 
 -- the time is put first, and then the count with the literals
 pub returns-clause-put : goal.returns-clause-put

@@ -1,5 +1,5 @@
--- Recursion and loop of `least_along`, `least_by_number` and `least_of_part`, which return the least scenario that a list of
--- cubes leaves of a cube, variable by variable along the order.
+-- Recursion and loop of `least_along`, `least_by_number` and `least_of_part`, which return the least scenario that a
+-- list of cubes leaves of a cube, variable by variable along the order.
 use Rattle.std.proofs.Common.{◌+◌, ◌*◌, ◌&&◌, length, map}
 use Rattle.std.specs.Prelude.{nat_lt}
 use Rattle.cpg_base.specs.First.{IsFirst}
@@ -12,11 +12,11 @@ use Rattle.cpg_cover.proofs.cover.+along.Given as goal
 abbrev pub decreases-least_along : goal.decreases-least_along
 decreases-least_along l = length l.variables.now * 3 + 1
 
--- it calls `least_of_part` for the numbers of the first variable, with one variable less
+-- `least_by_number` calls `least_of_part` for the numbers of the first variable, with one variable less
 abbrev pub decreases-least_by_number : goal.decreases-least_by_number
 decreases-least_by_number l = length l.variables.now * 3
 
--- it calls `least_along` with the same variables
+-- `least_of_part` calls `least_along` with the same variables
 abbrev pub decreases-least_of_part : goal.decreases-least_of_part
 decreases-least_of_part l = length l.variables.now * 3 + 2
 

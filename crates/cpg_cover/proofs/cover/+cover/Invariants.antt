@@ -1,5 +1,5 @@
--- Recursion of `left_of`, `left_of_part` and `left_outside`, which return the least scenario that a list of cubes leaves of a
--- cube, one cube of the list after another.
+-- Recursion of `left_of`, `left_of_part` and `left_outside`, which return the least scenario that a list of cubes
+-- leaves of a cube, one cube of the list after another.
 use Rattle.std.proofs.Common.{◌+◌, ◌*◌, length}
 use Rattle.cpg_cover.proofs.cover.+cover.Given as goal
 
@@ -8,10 +8,10 @@ use Rattle.cpg_cover.proofs.cover.+cover.Given as goal
 abbrev pub decreases-left_of : goal.decreases-left_of
 decreases-left_of l = length l.by.items * 300
 
--- it calls `left_of` with a list that is no longer
+-- `left_of_part` calls `left_of` with a list that is no longer
 abbrev pub decreases-left_of_part : goal.decreases-left_of_part
 decreases-left_of_part l = length l.by.now * 300 + 1
 
--- it calls `left_of_part` with the same list, and itself with one literal less
+-- `left_outside` calls `left_of_part` with the same list, and itself with one literal less
 abbrev pub decreases-left_outside : goal.decreases-left_outside
 decreases-left_outside l = length l.by.now * 300 + 2 + length l.literals.now

@@ -11,17 +11,18 @@ use Rattle.cpg_cover.proofs.cover.covers.Goals as goal
 -- the cubes of the list are of variables of the graph
 pub uncovered-requires-clause-list : goal.uncovered-requires-clause-list
 uncovered-requires-clause-list c =
-    let g = c.args.problem.now in
-    rw c.as_slice.ensures.value (all_unmapped (IsKnown g) (λ (b : Bor (List Literal)). b.now) c.in_ok-cubes.cubes.items
+    let graph = c.args.problem.now in
+    rw c.as_slice.ensures.value
+    (all_unmapped (IsKnown graph) (λ (b : Bor (List Literal)). b.now) c.in_ok-cubes.cubes.items
     (rw c.in_ok-cubes.ensures c.requires.list))
 
 -- the scenario that was found is the first that is left of the cube by the cubes of the list
 pub returns-clause-least : goal.returns-clause-least
 returns-clause-least c =
-    let g = c.args.problem.now in
+    let graph = c.args.problem.now in
     -- the cubes referred to are those of the columns
     let same : map (λ (b : Bor (List Literal)). b.now) c.as_slice.result.now ≡ c.args.by.now =
     ap (map (λ (b : Bor (List Literal)). b.now)) c.as_slice.ensures.value ∙ c.in_ok-cubes.ensures in
-    let first : IsFirst g c.args.order.now (is_left c.args.by.now c.args.cube.now) c.in_ok-found.found =
+    let first : IsFirst graph c.args.order.now (is_left c.args.by.now c.args.cube.now) c.in_ok-found.found =
     rw same at c.in_ok-found.ensures.first in
-    least_if_some g c.args.order.now (is_left c.args.by.now c.args.cube.now) c.in_ok-found.found first
+    least_if_some graph c.args.order.now (is_left c.args.by.now c.args.cube.now) c.in_ok-found.found first

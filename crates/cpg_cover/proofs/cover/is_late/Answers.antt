@@ -18,11 +18,11 @@ is_before-requires-clause-first c =
 -- the least scenario of the part isn't before the one that is found, so none of the part is
 pub returns : goal.returns
 returns c =
-    let g = c.args.problem.now in
+    let graph = c.args.problem.now in
     let order = c.args.order.now in
     -- the least scenario that the cube matches
-    let first : IsFirst g order (matches c.args.part.now) (Some c.in-Some-2.least) =
+    let first : IsFirst graph order (matches c.args.part.now) (Some c.in-Some-2.least) =
     rw c.in-Some-2.is at (c.in_ok-least.ensures.first order) in
-    rw c.in-Some.is (OnTrue_from (not c.is_before.result) (IsLate g order c.args.part.now (Some c.in-Some.found))
-    (λ t s i m. not_before_transitive g order c.in-Some.found c.in-Some-2.least s
-    (sym c.is_before.ensures ∙ not-true c.is_before.result t) (first.least s i m)))
+    rw c.in-Some.is (OnTrue_from (not c.is_before.result) (IsLate graph order c.args.part.now (Some c.in-Some.found))
+    (λ not_before s lawful matched. not_before_transitive graph order c.in-Some.found c.in-Some-2.least s
+    (sym c.is_before.ensures ∙ not-true c.is_before.result not_before) (first.least s lawful matched)))

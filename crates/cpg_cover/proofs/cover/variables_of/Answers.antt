@@ -10,27 +10,28 @@ use Rattle.cpg_cover.proofs.cover.variables_of.Goals.{then-marks-variable+in_ok-
 -- the processes of the order are those of the graph
 pub variables_along-requires : goal.variables_along-requires
 variables_along-requires c =
-    let n = process_count c.args.problem.now in
+    let count = process_count c.args.problem.now in
     record {
-      order = subst (All (λ p. p < n)) (sym c.processes.ensures.processes)
-          (within_order n c.args.order.now (rw c.requires at c.processes.ensures.order.all));
+      order = subst (All (λ p. p < count)) (sym c.processes.ensures.processes)
+          (within_order count c.args.order.now (rw c.requires at c.processes.ensures.order.all));
     }
 
 -- the next variable along the order is one of the graph, whether it is marked or not
 pub loop-variable-preserved : goal.loop-variable-preserved
 loop-variable-preserved c =
-    let g = c.args.problem.now in
-    let n = process_count g in
+    let graph = c.args.problem.now in
+    let count = process_count graph in
     -- the order has processes of the graph only, so the variables along it are the graph's
-    let within : All (λ p. p < n) c.processes.result.now = subst (All (λ p. p < n)) (sym c.processes.ensures.processes)
-    (within_order n c.args.order.now (rw c.requires at c.processes.ensures.order.all)) in
-    let all : All (IsVariable g) c.as_slice-variable-items.result.now =
+    let within : All (λ p. p < count) c.processes.result.now =
+    subst (All (λ p. p < count)) (sym c.processes.ensures.processes)
+    (within_order count c.args.order.now (rw c.requires at c.processes.ensures.order.all)) in
+    let all : All (IsVariable graph) c.as_slice-variable-items.result.now =
     rw (c.as_slice-variable-items.ensures.value, c.in_ok-all.ensures)
-    (variables_known g c.processes.result.now within) in
+    (variables_known graph c.processes.result.now within) in
     elim c.if-marks-variable.branch [
-      -- it is marked, and added; or it isn't, and the list stays
+      -- the variable is marked, and is added; or it isn't, and the list stays
       | then-marks-variable+in_ok-push w ↦ rw (w.variables-is, w.in_ok-push.ensures.items)
-          (All-push (IsVariable g) c.loop-variable.variables.items _ c.loop-variable.invariant
+          (All-push (IsVariable graph) c.loop-variable.variables.items _ c.loop-variable.invariant
           (all c.loop-variable.variable-index 0 (omega arith)))
       | else-marks-variable w ↦ rw w.variables-is c.loop-variable.invariant
     ]

@@ -13,11 +13,11 @@ use Rattle.cpg_cover.proofs.covering.is_surely_covered.Goals as goal
 -- if what the cubes leave takes more faults than the cube does, every scenario of the cube matches one of them
 pub returns : goal.returns
 returns c =
-    let g = c.args.problem.now in
+    let graph = c.args.problem.now in
     let cube = c.args.cube.now in
     let limits = c.faults.ensures.within in
     -- this cube is a cube of the graph: its variables rise, and each is one of the graph's
-    let is : IsCube g cube = record { rising = c.literals.ensures.rising; known = c.requires } in
+    let is : IsCube graph cube = record { rising = c.literals.ensures.rising; known = c.requires } in
     let low = c.of-bounds.result.low in
     let high = c.of-bounds.result.high in
     let left = c.in-Some.left in
@@ -25,12 +25,16 @@ returns c =
     let are : AreBounds cube low high = search rules in
     let long : length low ≡ 256 = search rules in
     -- the faults that this cube leaves
-    let some : budget_left (is_open g.faults) asked_of_literal g.faults cube ≡ Some left = search rules in
+    let some : budget_left (is_open graph.faults) asked_of_literal graph.faults cube ≡ Some left = search rules in
     -- the faults that what is beyond the lows needs
     let needs : Needs c.add_over.new.cubes.items c.in_ok-least_faults.least_faults = rw c.as_slice.ensures.value at c.in_ok-least_faults.ensures in
-    OnTrue_from (nat_lt left c.in_ok-least_faults.least_faults) _ (λ b s i t.
-    is_covered g limits cube is low high are long left some s i t (λ (d : Bor (List Literal)). d.now) c.args.by.now
-    c.add_over.new.cubes.items c.in_ok-least_faults.least_faults needs (ltb-true left c.in_ok-least_faults.least_faults b)
-    (λ k. c.in_ok-cubes.ensures (number_of s) (is_on g limits cube is low high are long left some s i t)
+    OnTrue_from (nat_lt left c.in_ok-least_faults.least_faults) _ (λ enough s lawful matched.
+    is_covered graph limits cube is low high are long left some s lawful matched
+    (λ (d : Bor (List Literal)). d.now) c.args.by.now
+    c.add_over.new.cubes.items c.in_ok-least_faults.least_faults needs
+    (ltb-true left c.in_ok-least_faults.least_faults enough)
+    (λ any_matched. c.in_ok-cubes.ensures (number_of s)
+    (is_on graph limits cube is low high are long left some s lawful matched)
     (c.in_ok-add_over.ensures (number_of s)
-    (rw c.literals-3.ensures.literals (is_narrow g limits cube is low high are long left some s i t)) k)))
+    (rw c.literals-3.ensures.literals (is_narrow graph limits cube is low high are long left some s lawful matched))
+    any_matched)))

@@ -35,18 +35,19 @@ fewest_by_parts-returns t c =
 pub fewest_by_value-returns : goal.fewest_by_value-returns
 fewest_by_value-returns t c =
     let cubes = c.args.cubes.now in
-    let v = c.args.variable in
+    let variable = c.args.variable in
     let budget = c.args.bound.budget in
     -- the cubes after the step that takes the value to be false
-    let off : Steps cubes v false budget c.in_ok-zero.zero.items =
+    let off : Steps cubes variable false budget c.in_ok-zero.zero.items =
     rw (c.zero.ensures.variable, c.zero.ensures.more) at c.in_ok-zero.ensures in
     -- the cubes after the step that takes the value to be true
-    let on : Steps cubes v true budget c.in_ok-one.one.items =
+    let on : Steps cubes variable true budget c.in_ok-one.one.items =
     rw (c.more.ensures.variable, c.more.ensures.more) at c.in_ok-one.ensures in
-    let a = c.min-fewer.ensures in
-    let b = c.saturating_add.ensures in
-    let d = c.min.ensures in
-    value_from cubes c.in_ok-zero.zero.items c.in_ok-one.one.items v budget c.in_ok-without.without c.in_ok-with.with
+    let fewer_is = c.min-fewer.ensures in
+    let with_is = c.saturating_add.ensures in
+    let min_is = c.min.ensures in
+    value_from cubes c.in_ok-zero.zero.items c.in_ok-one.one.items variable budget c.in_ok-without.without
+    c.in_ok-with.with
     c.min.result c.requires
     off (rw c.as_slice.ensures.value at c.in_ok-without.ensures) on
     (rw c.as_slice-2.ensures.value at c.in_ok-with.ensures) (omega arith) (omega arith) (omega arith)
@@ -54,7 +55,7 @@ fewest_by_value-returns t c =
 -- with a fault of the variable there is one fault at least, so the lesser of `without` and 1 is a bound
 pub fewest_with-returns-then-most-eq0 : goal.fewest_with-returns-then-most-eq0
 fewest_with-returns-then-most-eq0 t c =
-    let a = c.min.ensures in
+    let min_is = c.min.ensures in
     count_without c.args.cubes.now c.args.variable c.args.bound.budget c.args.without c.min.result c.requires.count
     c.requires.without (omega arith) (omega arith)
 
@@ -66,10 +67,10 @@ fewest_with-returns t c =
     -- what the step with one fault taken assumes
     let on : Steps cubes c.args.variable true (most - 1) c.in_ok-more.more.items =
     rw (c.more.ensures.variable, c.more.ensures.more) at c.in_ok-more.ensures in
-    let a = c.saturating_sub.ensures in
-    let b = c.min-most.ensures in
-    let d = c.saturating_add-least_faults.ensures in
-    let e = c.min-2.ensures in
+    let one_less = c.saturating_sub.ensures in
+    let most_is = c.min-most.ensures in
+    let with_one = c.saturating_add-least_faults.ensures in
+    let min_is = c.min-2.ensures in
     count_from cubes c.in_ok-more.more.items c.args.variable c.args.bound.budget c.args.without most c.in_ok-with.with
     c.min-2.result c.requires.count c.requires.without (omega arith) (omega arith)
     (omega arith)

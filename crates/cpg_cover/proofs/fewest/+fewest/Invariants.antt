@@ -2,8 +2,8 @@
 use Rattle.std.proofs.Common.{◌+◌, ◌*◌}
 use Rattle.cpg_cover.proofs.fewest.+fewest.Given as goal
 
--- The functions call each other. `fewest` calls the others with one less of depth, which counts eight. They call each other
--- and `fewest` with the same depth, so what is added says which may call which: the greater the lesser.
+-- The functions call each other. `fewest` calls the others with one less of depth, which counts eight. They call each
+-- other and `fewest` with the same depth, so what is added says which may call which: the greater the lesser.
 abbrev pub decreases-fewest : goal.decreases-fewest
 decreases-fewest l = l.bound.depth * 8
 

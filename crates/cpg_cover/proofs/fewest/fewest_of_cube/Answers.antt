@@ -1,5 +1,5 @@
--- Proof of `fewest_of_cube`, which returns how many faults a scenario has at least if a cube doesn't match it: the least
--- of its literals' numbers, and 255 for the cube without literals, which always matches.
+-- Proof of `fewest_of_cube`, which returns how many faults a scenario has at least if a cube doesn't match it: the
+-- least of its literals' numbers, and 255 for the cube without literals, which always matches.
 use Rattle.std.proofs.Common.{arith}
 use Rattle.cpg_cover.proofs.FewestLaws.{outside_more}
 use Rattle.cpg_cover.proofs.fewest.fewest_of_cube.Goals as goal

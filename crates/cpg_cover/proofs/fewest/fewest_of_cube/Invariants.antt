@@ -1,5 +1,5 @@
--- Loops of `fewest_of_cube`, which returns how many faults a scenario has at least if a cube doesn't match it: the least
--- of its literals' numbers, and 255 for the cube without literals, which always matches.
+-- Loops of `fewest_of_cube`, which returns how many faults a scenario has at least if a cube doesn't match it: the
+-- least of its literals' numbers, and 255 for the cube without literals, which always matches.
 use Rattle.std.proofs.Common.{take}
 use Rattle.cpg_cover.specs.Fewest.{NeedsOutside}
 use Rattle.cpg_cover.proofs.fewest.fewest_of_cube.Given as goal

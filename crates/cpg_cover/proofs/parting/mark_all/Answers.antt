@@ -9,18 +9,19 @@ use Rattle.cpg_cover.proofs.parting.mark_all.Goals as goal
 pub loop-literal-preserved : goal.loop-literal-preserved
 loop-literal-preserved c =
     let blank : Literal = record { variable = 0; low = 0; high = 0 } in
-    let ls = c.args.literals.now in
-    let at = c.loop-literal.literal-index in
-    let l = get_or ls at blank in
+    let literals = c.args.literals.now in
+    let place = c.loop-literal.literal-index in
+    let literal = get_or literals place blank in
     let marks = c.loop-literal.marks in
-    let later = slice_set marks l.variable true in
-    let inv = c.loop-literal.invariant in
-    let within : l.variable < length marks = search rules in
+    let later = slice_set marks literal.variable true in
+    let invariant = c.loop-literal.invariant in
+    let within : literal.variable < length marks = search rules in
     record {
       -- a mark that is there stays
-      kept = λ v t. still_marked marks l.variable v (inv.kept v t);
-      -- so those of the literals before stay, and the next one's is made
-      marked = all_one_more (λ m. same_bool (get_or later m.variable false) true) ls at blank (omega arith)
-          (all_still_marked marks later (take at ls) (λ v t. still_marked marks l.variable v t) inv.marked)
-          (ap (λ b. same_bool b true) (now_marked marks l.variable within));
+      kept = λ v on. still_marked marks literal.variable v (invariant.kept v on);
+      -- so the marks of the literals before stay, and that of the next one is made
+      marked = all_one_more (λ m. same_bool (get_or later m.variable false) true) literals place blank (omega arith)
+          (all_still_marked marks later (take place literals)
+          (λ v on. still_marked marks literal.variable v on) invariant.marked)
+          (ap (λ b. same_bool b true) (now_marked marks literal.variable within));
     }

@@ -17,10 +17,10 @@ returns-then-last-first c =
     let is : slice_get c.args.front.now (length c.args.front.now - 1) ≡ Some c.in-Some.last.now = search rules in
     let first : c.args.rest.now ≡ c.in-Some-split_first.first.now ∷ c.in-Some-split_first.field-0-1.now =
     search rules in
-    let le : c.in-Some-split_first.first.now.variable ≤ c.in-Some.last.now.variable = search rules in (
-      λ t. absurd (let is : false ≡ true = t in cc),
-      λ r. absurd (rises_not c.args.front.now c.args.rest.now c.in-Some.last.now c.in-Some-split_first.first.now
-          c.in-Some-split_first.field-0-1.now is first le r),
+    let not_above : c.in-Some-split_first.first.now.variable ≤ c.in-Some.last.now.variable = search rules in (
+      λ is_true. absurd (let is : false ≡ true = is_true in cc),
+      λ rises. absurd (rises_not c.args.front.now c.args.rest.now c.in-Some.last.now c.in-Some-split_first.first.now
+          c.in-Some-split_first.field-0-1.now is first not_above rises),
     )
 
 -- the last variable before the literals is below their first, so they rise together exactly if those behind do

@@ -10,7 +10,8 @@ use Rattle.cpg_cube.proofs.cube.is_above.Goals as goal
 pub returns-in-Some : goal.returns-in-Some
 returns-in-Some c = OnTrue_from (nat_lt c.in-Some.last.now.variable c.args.variable)
     (All (λ (l : Literal). l.variable < c.args.variable) c.args.literals.now)
-    (λ t. let there : slice_get c.args.literals.now (length c.args.literals.now - 1) ≡ Some c.in-Some.last.now =
+    (λ last_lower. let there : slice_get c.args.literals.now
+    (length c.args.literals.now - 1) ≡ Some c.in-Some.last.now =
     search rules in
     all_under c.args.literals.now c.args.variable c.in-Some.last.now c.requires there
-    (ltb-true c.in-Some.last.now.variable c.args.variable t))
+    (ltb-true c.in-Some.last.now.variable c.args.variable last_lower))

@@ -17,8 +17,9 @@ use Rattle.cpg_cube.proofs.sorting.by_least_scenario.Goals as goal
 
 -- the processes of the order are those of the graph
 pub variables_along-requires : goal.variables_along-requires
-variables_along-requires g c = let n = process_count c.args.problem.now in record {
-  order = subst (All (λ p. p < n)) (sym c.processes.ensures.processes) (within_order n c.args.order.now c.requires);
+variables_along-requires g c = let count = process_count c.args.problem.now in record {
+  order = subst (All (λ p. p < count)) (sym c.processes.ensures.processes)
+      (within_order count c.args.order.now c.requires);
 }
 
 -- the variables along the order are at most 256, and no two of them are the same
@@ -48,7 +49,7 @@ returns-clause-permutation g c =
     let after = c.sort_unstable_by.new.self.items in
     let columns = c.args.columns.items in
     IfOk-weaker _ (λ r. r.items ≡ map column after) (λ r. IsPermutation columns r.items)
-    (λ r e. subst (IsPermutation columns) (sym e)
+    (λ r equal. subst (IsPermutation columns) (sym equal)
     (subst (λ (xs : List g.row.T.Denot). IsPermutation xs (map column after)) c.in_ok-ranked.ensures.columns
     (IsPermutation-map column before after c.sort_unstable_by.ensures.permutation)))
     (search rules)
@@ -72,9 +73,9 @@ returns-clause-by_lows g c =
     -- the columns are sorted by their keys
     let up : IsSortedBy is_key_below after =
     c.sort_unstable_by.ensures.sorted is_key_below is_total (always_returns_same _ _ _ (λ a r f k. search rules)) in
-    -- so they stand by their lows along the order
+    -- so the columns stand by their lows along the order
     IfOk-weaker _ (λ r. r.items ≡ map column after) (λ r. AreByLows g.T.Cubed.cubed problem order r.items)
-    (λ r e. subst (AreByLows g.T.Cubed.cubed problem order) (sym e)
+    (λ r equal. subst (AreByLows g.T.Cubed.cubed problem order) (sym equal)
     (by_lows g.T.Cubed.cubed problem order c.as_slice.result.now few along before after
     c.in_ok-ranked.ensures.keys c.sort_unstable_by.ensures.permutation up))
     (search rules)

@@ -27,14 +27,14 @@ pub loop-place-preserved : goal.loop-place-preserved
 loop-place-preserved g c =
     let columns = c.args.columns.now in
     let variables = c.args.variables.now in
-    let n = c.loop-place.place in
-    let within : n < length columns = omega (arith, c.loop-place-test.true) in
+    let here = c.loop-place.place in
+    let within : here < length columns = omega (arith, c.loop-place-test.true) in
     -- the column at this place has the key that was made
-    best_next g.T.Cubed.cubed columns variables n c.loop-place.best
-    (record { key = c.in_ok-key-2.key; place = n }) c.loop-place.invariant refl
+    best_next g.T.Cubed.cubed columns variables here c.loop-place.best
+    (record { key = c.in_ok-key-2.key; place = here }) c.loop-place.invariant refl
     (λ d.
-    let is : c.cube-in-loop-place.result.now ≡ g.T.Cubed.cubed (get_or columns n d) = c.cube-in-loop-place.ensures ∙
-    ap g.T.Cubed.cubed (c.index-columns-place.is ∙ get_or_default columns n c.index-columns-place.result d within) in
+    let is : c.cube-in-loop-place.result.now ≡ g.T.Cubed.cubed (get_or columns here d) = c.cube-in-loop-place.ensures ∙
+    ap g.T.Cubed.cubed (c.index-columns-place.is ∙ get_or_default columns here c.index-columns-place.result d within) in
     record {
       is = c.in_ok-key-2.ensures.key variables c.places_of-places.ensures ∙ ap (key_by variables) is;
       bytes = subst AreBytes is c.in_ok-key-2.ensures.bytes;
@@ -44,9 +44,9 @@ loop-place-preserved g c =
 -- the loop has seen all columns, so the best of them is the first of all
 pub returns-clause-first : goal.returns-clause-first
 returns-clause-first g c =
-    let h = c.loop-place.invariant.first in
+    let first_by_keys = c.loop-place.invariant.first in
     record {
       there = search rules;
-      first = λ j d l. h.first j d (omega (arith, l));
-      bytes = λ j d l. h.bytes j d (omega (arith, l));
+      first = λ j d inside. first_by_keys.first j d (omega (arith, inside));
+      bytes = λ j d inside. first_by_keys.bytes j d (omega (arith, inside));
     }

@@ -3,6 +3,6 @@
 use Rattle.cpg_cube.proofs.KeyOrder.{IsBest}
 use Rattle.cpg_cube.proofs.sorting.first_by_key.Given as goal
 
--- `best` is the place of the first by key among the columns so far
+-- `best` has the place and the key of the first by key among the columns so far
 abbrev pub invariant-loop-place : goal.invariant-loop-place
 invariant-loop-place g l = IsBest g.T.Cubed.cubed l.columns l.variables l.place l.best

@@ -12,8 +12,9 @@ use Rattle.cpg_cube.proofs.sorting.first_by_least_scenario.Goals as goal
 
 -- the processes of the order are those of the graph
 pub variables_along-requires : goal.variables_along-requires
-variables_along-requires g c = let n = process_count c.args.problem.now in record {
-  order = subst (All (λ p. p < n)) (sym c.processes.ensures.processes) (within_order n c.args.order.now c.requires);
+variables_along-requires g c = let count = process_count c.args.problem.now in record {
+  order = subst (All (λ p. p < count)) (sym c.processes.ensures.processes)
+      (within_order count c.args.order.now c.requires);
 }
 
 -- the variables along the order are at most 256, and no two of them are the same

@@ -10,16 +10,16 @@ use Rattle.cpg_cube.proofs.sorting.key_of.Goals as goal
 -- with the lows of a block put, those of the rest are still to be put, and the whole key is the same
 pub loop-block-preserved : goal.loop-block-preserved
 loop-block-preserved c =
-    let old = c.loop-block.invariant in
+    let invariant = c.loop-block.invariant in
     let places = c.args.places.now in
     let block = c.in-Some.block.now in
     let rest = c.in-Some.rest.now in
     let parted : c.loop-block.left.now ≡ block ++ rest = search rules in
     record {
-      key = old.key ∙ ap (λ ls. with_lows_of places ls c.loop-block.key.items) parted
+      key = invariant.key ∙ ap (λ ls. with_lows_of places ls c.loop-block.key.items) parted
           ∙ lows_after places block rest c.loop-block.key.items
           ∙ ap (with_lows_of places rest) (sym c.in_ok-put_block.ensures.key);
-      bytes = λ later. old.bytes (subst AreBytes (sym parted)
+      bytes = λ later. invariant.bytes (subst AreBytes (sym parted)
           (All-append (λ (l : Literal). l.low < 256) block rest c.in_ok-put_block.ensures.bytes later));
     }
 

@@ -9,7 +9,7 @@ pub returns-then-key-place : goal.returns-then-key-place
 returns-then-key-place c =
     place_here c.args.number c.loop-place.place _ c.args.key.now (omega arith) (search rules) c.loop-place.invariant
 
--- at any other number the place is further on
+-- if the next number isn't less, the place is behind it
 pub loop-place-preserved : goal.loop-place-preserved
 loop-place-preserved c =
     place_next c.args.number c.loop-place.place _ c.args.key.now (omega arith) (search rules) c.loop-place.invariant

@@ -12,12 +12,12 @@ loop-variable-init c = record { left = refl; long = refl; places = places_none }
 -- with the next variable's place written, the places are those of one variable more
 pub loop-variable-preserved : goal.loop-variable-preserved
 loop-variable-preserved c =
-    let i = c.loop-variable.invariant in
+    let invariant = c.loop-variable.invariant in
     let within : c.loop-variable.variable-index < length c.args.variables.now = omega arith in
     let small : slice_index_or c.args.variables.now c.loop-variable.variable-index 0 < 256 = omega arith in
     record {
-      left = omega (arith, i.left, within, c.requires.few);
+      left = omega (arith, invariant.left, within, c.requires.few);
       long = search rules;
       places = places_more c.args.variables.now c.requires.apart c.loop-variable.variable-index 0 c.loop-variable.left
-          within i.left c.loop-variable.places i.long small i.places;
+          within invariant.left c.loop-variable.places invariant.long small invariant.places;
     }

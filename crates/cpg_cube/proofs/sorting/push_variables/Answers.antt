@@ -8,13 +8,13 @@ use Rattle.cpg_cube.proofs.sorting.push_variables.Goals as goal
 -- a graph has at most 32 conditions, so the number of one fits a byte
 pub overflow_cast-condition : goal.overflow_cast-condition
 overflow_cast-condition c =
-    let l : c.in-Some.condition < condition_count c.args.problem.now =
+    let below : c.in-Some.condition < condition_count c.args.problem.now =
     condition_of_below c.args.problem.now c.args.process c.in-Some.condition (search rules) in
     omega arith
 
 -- a graph has at most 32 conditions, so 128 + a condition fits a byte
 pub overflow_add-condition : goal.overflow_add-condition
 overflow_add-condition c =
-    let l : c.in-Some.condition < condition_count c.args.problem.now =
+    let below : c.in-Some.condition < condition_count c.args.problem.now =
     condition_of_below c.args.problem.now c.args.process c.in-Some.condition (search rules) in
     omega arith

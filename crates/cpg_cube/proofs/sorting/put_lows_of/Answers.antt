@@ -11,12 +11,12 @@ use Rattle.cpg_cube.proofs.sorting.put_lows_of.Goals as goal
 pub loop-literal-preserved : goal.loop-literal-preserved
 loop-literal-preserved c =
     let literals = c.args.literals.now in
-    let i = c.loop-literal.literal-index in
-    let old = c.loop-literal.invariant in
+    let index = c.loop-literal.literal-index in
+    let invariant = c.loop-literal.invariant in
     record {
       key = grind (arith, common_steps);
-      bytes = subst AreBytes (sym (take_more literals i _ (omega arith)))
-          (All-push (λ (l : Literal). l.low < 256) (take i literals) _ old.bytes c.put_low_of.ensures.byte);
+      bytes = subst AreBytes (sym (take_more literals index _ (omega arith)))
+          (All-push (λ (l : Literal). l.low < 256) (take index literals) _ invariant.bytes c.put_low_of.ensures.byte);
     }
 
 -- all lows that were put are bytes

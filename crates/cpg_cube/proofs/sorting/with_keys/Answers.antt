@@ -10,11 +10,12 @@ use Rattle.cpg_cube.proofs.sorting.with_keys.Goals as goal
 -- the column that was added has the key of its cube, as those before have
 pub loop-column-preserved : goal.loop-column-preserved
 loop-column-preserved g c =
-    let i = c.loop-column.invariant in
+    let invariant = c.loop-column.invariant in
     let has_key = λ (x : Ranked g.row.T.Denot). IsKeyOf c.args.variables.now (g.T.Cubed.cubed x.column) x.key.items in
     record {
       columns = grind (arith, common_steps);
-      keys = subst (All has_key) (sym c.in_ok-push.ensures.items) (All-push has_key c.loop-column.ranked.items _ i.keys
+      keys = subst (All has_key) (sym c.in_ok-push.ensures.items)
+          (All-push has_key c.loop-column.ranked.items _ invariant.keys
           (record {
             is = c.in_ok-key.ensures.key c.args.variables.now c.places_of-places.ensures
                 ∙ ap (λ (ls : List Literal). key_by c.args.variables.now ls) c.cube.ensures;
@@ -30,7 +31,7 @@ loop-column-init g c =
       columns = search rules;
       keys = subst
           (All (λ (x : Ranked g.row.T.Denot). IsKeyOf c.args.variables.now (g.T.Cubed.cubed x.column) x.key.items))
-          (sym none) (λ k d l. absurd (omega (arith, l)));
+          (sym none) (λ k d inside. absurd (omega (arith, inside)));
     }
 
 -- no column is left, so the ranked columns are all of them

@@ -23,12 +23,12 @@ loop-process_number-init c = record {
 pub loop-process_number-preserved : goal.loop-process_number-preserved
 loop-process_number-preserved c =
     let i : ℕ = c.loop-process_number.process_number in
-    let x : ℕ = number_before c.args.number i in
+    let draws_from : ℕ = number_before c.args.number i in
     -- the process is made of the draws that belong to it
-    let at : c.loop-process_number.draws.number ≡ x = c.loop-process_number.invariant.draws in
+    let at : c.loop-process_number.draws.number ≡ draws_from = c.loop-process_number.invariant.draws in
     let made : c.in_ok-process.field-0 ≡ generated_process c.args.number i =
     c.in_ok-process.ensures.process ∙ ap (λ y. process_from y i) at in
-    let after : c.process.new.draws.number ≡ number_after x 5 =
+    let after : c.process.new.draws.number ≡ number_after draws_from 5 =
     c.process.ensures.number ∙ ap (λ y. number_after y 5) at in
     -- where the next draws start, the processes so far, and the edges so far
     record {
@@ -39,7 +39,7 @@ loop-process_number-preserved c =
           c.in_ok-push.ensures.items;
       edges = c.in_ok-push_edges.ensures.edges
           ∙ ap₂ ◌++◌ c.loop-process_number.invariant.edges
-          (ap (λ y. edges_by (next_number y) i) after ∙ ap (λ y. edges_by y i) (sym (number_after-suc x 5)))
+          (ap (λ y. edges_by (next_number y) i) after ∙ ap (λ y. edges_by y i) (sym (number_after-suc draws_from 5)))
           ∙ flat_map_below_push (generated_edges c.args.number) i;
     }
 

@@ -1,5 +1,5 @@
--- Proof of `instances_are_activated_alike`: if there is a topological order, a process of an instance is activated as
--- the part's process is.
+-- Proof of `instances_are_activated_alike`: if the graph of all instances has a topological order, a process of an
+-- instance is activated as the part's process is, in what the scenario is for the instance.
 use Rattle.cpg_hyper.proofs.Alike.{activated_alike}
 use Rattle.cpg_hyper.proofs.laws.instances_are_activated_alike.Goals as goal
 

@@ -1,5 +1,5 @@
--- Proof of `instances_are_active_alike`: if there is a topological order, a process of an instance is active exactly if
--- the part's process is.
+-- Proof of `instances_are_active_alike`: if the graph of all instances has a topological order, a process of an
+-- instance is active exactly if the part's process is, in what the scenario is for the instance.
 use Rattle.cpg_hyper.proofs.Alike.{active_alike}
 use Rattle.cpg_hyper.proofs.laws.instances_are_active_alike.Goals as goal
 

@@ -1,5 +1,5 @@
--- Proof of `instances_are_live_alike`: if there is a topological order, an edge of an instance is live exactly if the
--- part's edge is.
+-- Proof of `instances_are_live_alike`: if the graph of all instances has a topological order, an edge of an instance is
+-- live exactly if the part's edge is, in what the scenario is for the instance.
 use Rattle.cpg_hyper.proofs.Alike.{live_alike}
 use Rattle.cpg_hyper.proofs.laws.instances_are_live_alike.Goals as goal
 

@@ -10,11 +10,15 @@ loop-part-init c = record { some = omega arith; short = omega arith; whole = non
 
 -- the hyperperiod is no less than the least common multiple so far, which is too long
 pub returns-then-whole-gt-LONGEST-clause-long : goal.returns-then-whole-gt-LONGEST-clause-long
-returns-then-whole-gt-LONGEST-clause-long c whole h =
+returns-then-whole-gt-LONGEST-clause-long c whole is_hyperperiod =
     let next = more_so_far c.args.parts.now c.loop-part.part-index c.part-item.result c.loop-part.whole
     c.least_common-whole.result c.loop-part-test.true c.part-item.is c.loop-part.invariant.whole
     c.least_common-whole.ensures.least in
-    omega (arith, least_below c.args.parts.now _ whole c.least_common-whole.result next h, c.if-whole-gt-LONGEST.true)
+    omega (
+      arith,
+      least_below c.args.parts.now _ whole c.least_common-whole.result next is_hyperperiod,
+      c.if-whole-gt-LONGEST.true,
+    )
 
 -- the least common multiple of this and the next period is that of one period more
 pub loop-part-preserved : goal.loop-part-preserved

@@ -10,18 +10,18 @@ use Rattle.cpg_hyper.proofs.processes.add_instance.Goals as goal
 -- the copy of one more process is added, and its name is short enough
 pub loop-process-preserved : goal.loop-process-preserved
 loop-process-preserved c =
-    let xs = c.processes-process-items.result.now in
-    let i = c.loop-process.process-index in
+    let processes = c.processes-process-items.result.now in
+    let index = c.loop-process.process-index in
     -- the copy, whose name is short enough
     let made : c.in-Some.copy ≡ copied_process c.args.number c.args.instance c.args.part.now c.process-item.result =
     search rules in
     let short : length (name_in c.args.number c.args.instance c.process-item.result.name) ≤ 32 = search rules in
     record {
-      added = made_more xs i c.process-item.result c.loop-process-test.true c.process-item.is
+      added = made_more processes index c.process-item.result c.loop-process-test.true c.process-item.is
           (copied_process c.args.number c.args.instance c.args.part.now) c.args.out.now.items c.loop-process.out.items
           c.push.new.self.items c.loop-process.invariant.added
           (c.in_ok-push-in-Some.ensures.items ∙ ap (λ q. c.loop-process.out.items ++ q ∷ []) made);
-      short = all_more xs i c.process-item.result c.loop-process-test.true c.process-item.is
+      short = all_more processes index c.process-item.result c.loop-process-test.true c.process-item.is
           (λ (q : Process). length (name_in c.args.number c.args.instance q.name) ≤ 32)
           c.loop-process.invariant.short short;
     }

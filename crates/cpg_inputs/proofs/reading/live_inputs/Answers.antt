@@ -14,18 +14,18 @@ returns-in_err-tables-clause-inputs g c =
     let S = g.S.Shelf in
     let past : List Fetch = (S.state c.args.shelf.now).history in
     let now : List Fetch = (S.state c.read_tables.new.shelf).history in
-    let p = err_from_is_err_and c.from_residual.result c.from_residual.ensures.1 in
-    rw (p.1, p.2) (stops_one None (file PackFile c.args.pack.now) [] past now c.in_err-tables.field-0.0
+    let failed = err_from_is_err_and c.from_residual.result c.from_residual.ensures.1 in
+    rw (failed.1, failed.2) (stops_one None (file PackFile c.args.pack.now) [] past now c.in_err-tables.field-0.0
     (c.in_err-tables.ensures.halt None))
 
 -- the pack was read, and the inputs are its tables with the names of the node and the stream
 pub returns-clause-inputs : goal.returns-clause-inputs
 returns-clause-inputs g c =
     let S = g.S.Shelf in
-    let t = c.in_ok-tables.tables in
+    let tables = c.in_ok-tables.tables in
     record {
-      values = tables_value t ∷ [];
+      values = tables_value tables ∷ [];
       reads = reads_one None (file PackFile c.args.pack.now) (S.state c.args.shelf.now).history
-          (S.state c.read_tables.new.shelf).history (tables_value t) (c.in_ok-tables.ensures.tables None);
+          (S.state c.read_tables.new.shelf).history (tables_value tables) (c.in_ok-tables.ensures.tables None);
       are = (c.args.pack.now, refl, refl);
     }

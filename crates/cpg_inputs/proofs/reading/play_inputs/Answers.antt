@@ -15,8 +15,8 @@ returns-in_err-graph_and_pack-clause-inputs g c =
     let S = g.S.Shelf in
     let past : List Fetch = (S.state c.args.shelf.now).history in
     let now : List Fetch = (S.state c.read_graph_and_pack.new.shelf).history in
-    let p = err_from_is_err_and c.from_residual.result c.from_residual.ensures.1 in
-    rw (p.1, p.2) (stops_more None (file GraphFile c.args.graph.now ∷ file PackFile c.args.pack.now ∷ [])
+    let failed = err_from_is_err_and c.from_residual.result c.from_residual.ensures.1 in
+    rw (failed.1, failed.2) (stops_more None (file GraphFile c.args.graph.now ∷ file PackFile c.args.pack.now ∷ [])
     (file ScenarioFile c.args.scenario.now ∷ []) past now
     c.in_err-graph_and_pack.field-0.0 c.in_err-graph_and_pack.ensures.halt)
 
@@ -24,8 +24,8 @@ returns-in_err-graph_and_pack-clause-inputs g c =
 pub returns-in_err-played-clause-inputs : goal.returns-in_err-played-clause-inputs
 returns-in_err-played-clause-inputs g c =
     let S = g.S.Shelf in
-    let a = c.in_ok-graph_and_pack.graph_and_pack.graph in
-    let t = c.in_ok-graph_and_pack.graph_and_pack.tables in
+    let admission = c.in_ok-graph_and_pack.graph_and_pack.graph in
+    let tables = c.in_ok-graph_and_pack.graph_and_pack.tables in
     -- the histories at first, after the pack and after the scenario
     let past : List Fetch = (S.state c.args.shelf.now).history in
     let mid : List Fetch = (S.state c.read_graph_and_pack.new.shelf).history in
@@ -34,11 +34,12 @@ returns-in_err-played-clause-inputs g c =
     let last = file ScenarioFile c.args.scenario.now in
     -- the scenario stops the run, after the graph and the pack
     let stops =
-    stops_one (Some a.graph) last [] mid now halt (rw c.problem.ensures.problem at c.in_err-played.ensures.halt) in
-    let p = err_from_is_err_and c.from_residual-in_err-played.result c.from_residual-in_err-played.ensures.1 in
-    rw (p.1, p.2) (stops_after None (file GraphFile c.args.graph.now ∷ file PackFile c.args.pack.now ∷ [])
+    stops_one (Some admission.graph) last [] mid now halt
+    (rw c.problem.ensures.problem at c.in_err-played.ensures.halt) in
+    let failed = err_from_is_err_and c.from_residual-in_err-played.result c.from_residual-in_err-played.ensures.1 in
+    rw (failed.1, failed.2) (stops_after None (file GraphFile c.args.graph.now ∷ file PackFile c.args.pack.now ∷ [])
     (last ∷ []) past mid now
-    (graph_value a ∷ tables_value t ∷ []) halt c.in_ok-graph_and_pack.ensures.read stops)
+    (graph_value admission ∷ tables_value tables ∷ []) halt c.in_ok-graph_and_pack.ensures.read stops)
 
 -- both readings keep the shelf, one after the other
 pub returns-in_err-played-clause-keeps : goal.returns-in_err-played-clause-keeps

@@ -22,8 +22,8 @@ returns-in_err-problem-clause-halt g c =
     let at_start : List Fetch = (S.state c.args.shelf.now).history in
     let before_file : List Fetch = (S.state c.loop-pair.shelf).history in
     let after_file : List Fetch = (S.state c.read_part.new.shelf).history in
-    let p = err_from_is_err_and c.from_residual.result c.from_residual.ensures.1 in
-    rw (p.1, p.2) (stops_next c.args.pairs.now c.loop-pair.pair-index c.pair-item.result c.loop-pair-test.true
+    let failed = err_from_is_err_and c.from_residual.result c.from_residual.ensures.1 in
+    rw (failed.1, failed.2) (stops_next c.args.pairs.now c.loop-pair.pair-index c.pair-item.result c.loop-pair-test.true
     c.pair-item.is c.loop-pair.parts.items at_start before_file after_file c.loop-pair.invariant.read
     c.in_err-problem.field-0.0 (rw c.as_str.ensures at c.in_err-problem.ensures.halt))
 
@@ -60,8 +60,8 @@ returns-in_err-add-clause-halt g c =
     let at_start : List Fetch = (S.state c.args.shelf.now).history in
     let before_file : List Fetch = (S.state c.loop-pair.shelf).history in
     let after_file : List Fetch = (S.state c.read_part.new.shelf).history in
-    let p = err_from_is_err_and c.from_residual-in_err-add.result c.from_residual-in_err-add.ensures.1 in
-    rw (p.1, p.2) (wants_next c.args.pairs.now c.loop-pair.pair-index c.pair-item.result c.loop-pair-test.true
+    let failed = err_from_is_err_and c.from_residual-in_err-add.result c.from_residual-in_err-add.ensures.1 in
+    rw (failed.1, failed.2) (wants_next c.args.pairs.now c.loop-pair.pair-index c.pair-item.result c.loop-pair-test.true
     c.pair-item.is c.loop-pair.parts.items at_start before_file after_file c.loop-pair.invariant.read
     c.in_ok-problem.problem c.in_err-add.field-0.0
     (rw c.as_str.ensures at c.in_ok-problem.ensures.graph) c.in_err-add.ensures.halt)

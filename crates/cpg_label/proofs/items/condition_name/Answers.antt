@@ -7,6 +7,6 @@ use Rattle.cpg_label.proofs.items.condition_name.Goals as goal
 -- the name of the condition's process is what the labels of the graph call the condition
 pub returns : goal.returns
 returns c =
-    let g = c.args.problem.now in
-    c.name_of.ensures.name ∙ ap (λ p. (process_at g p).name) c.process_of.ensures.process
-    ∙ sym (condition_called g c.args.condition c.requires)
+    let problem = c.args.problem.now in
+    c.name_of.ensures.name ∙ ap (λ p. (process_at problem p).name) c.process_of.ensures.process
+    ∙ sym (condition_called problem c.args.condition c.requires)

@@ -21,11 +21,11 @@ bounds-processes-process c =
 -- the names of the conditions so far get that of this one: its process is the next one with a condition
 pub loop-condition-preserved : goal.loop-condition-preserved
 loop-condition-preserved c =
-    let g = c.args.problem.now in
-    next_mapped (λ n. n.now) (λ p. (process_at g p).name) c.loop-condition.names.items c.push.new.self.items _
-    (disjunctions g) c.loop-condition.condition 0
+    let problem = c.args.problem.now in
+    next_mapped (λ n. n.now) (λ p. (process_at problem p).name) c.loop-condition.names.items c.push.new.self.items _
+    (disjunctions problem) c.loop-condition.condition 0
     (omega (arith, c.conditions-condition-end.ensures.count)) c.loop-condition.invariant c.in_ok-push.ensures.items
     (ap (λ (p : Process). p.name) (ap₂ (λ ps i. get_or ps i c.index-processes-process.result)
     c.processes.ensures.processes c.process_of-process.ensures.process
-    ∙ get_or_default g.processes (process_of g c.loop-condition.condition) c.index-processes-process.result _
-    (process_of_below g c.loop-condition.condition (omega (arith, c.conditions-condition-end.ensures.count)))))
+    ∙ get_or_default problem.processes (process_of problem c.loop-condition.condition) c.index-processes-process.result
+    _ (process_of_below problem c.loop-condition.condition (omega (arith, c.conditions-condition-end.ensures.count)))))

@@ -28,15 +28,15 @@ begin-requires-clause-asked c =
 -- the lane at this place is that of the track that was asked there
 pub begin-requires-clause-lane : goal.begin-requires-clause-lane
 begin-requires-clause-lane c =
-    let g = c.args.setting.now.problem.now in
+    let graph = c.args.setting.now.problem.now in
     let asked = c.args.asked.now in
-    let a = c.index-asked-i.result in
-    let values : track_at (outcomes_asked asked) c.loop-i.i ≡ a.scenario.now.values =
-    outcome_asked asked c.loop-i.i a c.loop-i-test.true ∙
+    let track = c.index-asked-i.result in
+    let values : track_at (outcomes_asked asked) c.loop-i.i ≡ track.scenario.now.values =
+    outcome_asked asked c.loop-i.i track c.loop-i-test.true ∙
     ap (λ (b : Asked). b.scenario.now.values) (sym c.index-asked-i.is) in
-    subst (IsLane g ((CanBegin c.args.setting.now c.args.frozen.now c.args.process) a.scenario.now.values))
+    subst (IsLane graph ((CanBegin c.args.setting.now c.args.frozen.now c.args.process) track.scenario.now.values))
     (sym c.index_mut.ensures.value)
-    (subst (λ (v : List Bool). IsLane g ((CanBegin c.args.setting.now c.args.frozen.now c.args.process) v)
+    (subst (λ (v : List Bool). IsLane graph ((CanBegin c.args.setting.now c.args.frozen.now c.args.process) v)
     (get_or c.loop-i.lanes.items c.loop-i.i c.index_mut.result.now)) values
     (c.loop-i.invariant.left c.loop-i.i c.index_mut.result.now (omega arith) c.loop-i-test.true))
 
@@ -47,16 +47,16 @@ index_mut-requires c = omega (arith, c.loop-i-test.true, c.loop-i.invariant.coun
 -- the process has begun in one lane more, and the other lanes stay
 pub loop-i-preserved : goal.loop-i-preserved
 loop-i-preserved c =
-    let g = c.args.setting.now.problem.now in
+    let graph = c.args.setting.now.problem.now in
     let asked = c.args.asked.now in
-    let a = c.index-asked-i.result in
-    let values : track_at (outcomes_asked asked) c.loop-i.i ≡ a.scenario.now.values =
-    outcome_asked asked c.loop-i.i a c.loop-i-test.true ∙
+    let track = c.index-asked-i.result in
+    let values : track_at (outcomes_asked asked) c.loop-i.i ≡ track.scenario.now.values =
+    outcome_asked asked c.loop-i.i track c.loop-i-test.true ∙
     ap (λ (b : Asked). b.scenario.now.values) (sym c.index-asked-i.is) in
-    half_more (LaneHas g (CanBegin c.args.setting.now c.args.frozen.now c.args.process) (outcomes_asked asked))
-    (LaneHas g (HasSentTo c.args.setting.now c.args.frozen.now c.args.process 0 0) (outcomes_asked asked))
+    half_more (LaneHas graph (CanBegin c.args.setting.now c.args.frozen.now c.args.process) (outcomes_asked asked))
+    (LaneHas graph (HasSentTo c.args.setting.now c.args.frozen.now c.args.process 0 0) (outcomes_asked asked))
     (length asked) c.loop-i.i c.loop-i.lanes.items _ c.begin.new.self c.loop-i.invariant c.loop-i-test.true
-    (subst (λ (v : List Bool). IsLane g ((HasSentTo c.args.setting.now c.args.frozen.now c.args.process 0 0) v)
+    (subst (λ (v : List Bool). IsLane graph ((HasSentTo c.args.setting.now c.args.frozen.now c.args.process 0 0) v)
     c.begin.new.self) (sym values) c.begin.ensures) refl
 
 -- after the loop the process has begun in the lanes of all tracks

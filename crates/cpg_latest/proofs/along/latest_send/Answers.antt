@@ -45,63 +45,64 @@ send_time-time-requires-clause-asked c =
 -- the lane of this track has a course for each number of faults
 pub send_time-time-requires-clause-count : goal.send_time-time-requires-clause-count
 send_time-time-requires-clause-count c =
-    let t = subst (TellsSend c.args.setting.now.problem.now
+    let tells = subst (TellsSend c.args.setting.now.problem.now
     (track_at (outcomes_asked c.args.asked.now) c.loop-i.i) c.args.process) (sym c.index-lanes-i.is)
     (c.requires.lanes.each c.loop-i.i c.index-lanes-i.result
     (omega (arith, c.loop-i-test.true, c.requires.lanes.count))) in
-    t.count
+    tells.count
 
 -- the last course of this lane says for each node when its slots are free
 pub send_time-time-requires-clause-free : goal.send_time-time-requires-clause-free
 send_time-time-requires-clause-free c =
-    let t = subst (TellsSend c.args.setting.now.problem.now
+    let tells = subst (TellsSend c.args.setting.now.problem.now
     (track_at (outcomes_asked c.args.asked.now) c.loop-i.i) c.args.process) (sym c.index-lanes-i.is)
     (c.requires.lanes.each c.loop-i.i c.index-lanes-i.result
     (omega (arith, c.loop-i-test.true, c.requires.lanes.count))) in
-    t.free
+    tells.free
 
 -- if the process is active, its end in the last course of this lane is below 2 ^ 59, as the lanes tell
 pub send_time-time-requires-clause-early : goal.send_time-time-requires-clause-early
 send_time-time-requires-clause-early c on =
     let asked = c.args.asked.now in
-    let a = c.index-asked-i.result in
+    let track = c.index-asked-i.result in
     let inside : c.loop-i.i < length asked = omega
     (arith, c.loop-i-test.true, c.requires.lanes.count, length-map asked (λ (a : Asked). a.scenario.now.values)) in
-    let values : track_at (outcomes_asked asked) c.loop-i.i ≡ a.scenario.now.values =
-    outcome_asked asked c.loop-i.i a inside ∙ ap (λ (b : Asked). b.scenario.now.values) (sym c.index-asked-i.is) in
-    let t = subst (TellsSend c.args.setting.now.problem.now (track_at (outcomes_asked asked) c.loop-i.i) c.args.process)
+    let values : track_at (outcomes_asked asked) c.loop-i.i ≡ track.scenario.now.values =
+    outcome_asked asked c.loop-i.i track inside ∙ ap (λ (b : Asked). b.scenario.now.values) (sym c.index-asked-i.is) in
+    let tells = subst (TellsSend c.args.setting.now.problem.now
+    (track_at (outcomes_asked asked) c.loop-i.i) c.args.process)
     (sym c.index-lanes-i.is)
     (c.requires.lanes.each c.loop-i.i c.index-lanes-i.result
     (omega (arith, c.loop-i-test.true, c.requires.lanes.count))) in
-    t.early (ap (λ v. active c.args.setting.now.problem.now v c.args.process) values ∙ on)
+    tells.early (ap (λ v. active c.args.setting.now.problem.now v c.args.process) values ∙ on)
 
 -- with this track the latest time is that over one track more: its time counts if the item is sent in it
 pub loop-i-preserved : goal.loop-i-preserved
 loop-i-preserved c =
-    let g = c.args.setting.now.problem.now in
+    let graph = c.args.setting.now.problem.now in
     let asked = c.args.asked.now in
-    let a = c.index-asked-i.result in
+    let track = c.index-asked-i.result in
     -- the track at hand has the values that are asked, and its lane is the one that is read
     let inside : c.loop-i.i < length asked = omega
     (arith, c.loop-i-test.true, c.requires.lanes.count, length-map asked (λ (a : Asked). a.scenario.now.values)) in
-    let values : track_at (outcomes_asked asked) c.loop-i.i ≡ a.scenario.now.values =
-    outcome_asked asked c.loop-i.i a inside ∙ ap (λ (b : Asked). b.scenario.now.values) (sym c.index-asked-i.is) in
+    let values : track_at (outcomes_asked asked) c.loop-i.i ≡ track.scenario.now.values =
+    outcome_asked asked c.loop-i.i track inside ∙ ap (λ (b : Asked). b.scenario.now.values) (sym c.index-asked-i.is) in
     let lane : c.index-lanes-i.result ≡ lane_at c.args.lanes.now c.loop-i.i =
     c.index-lanes-i.is ∙ get_or_default c.args.lanes.now c.loop-i.i c.index-lanes-i.result [] c.loop-i-test.true in
-    let acts_same = ap (λ v. active g v c.args.process) values in
-    let sent_same = ap (λ v. item_active g v (item_at g c.args.item)) values in
+    let acts_same = ap (λ v. active graph v c.args.process) values in
+    let sent_same = ap (λ v. item_active graph v (item_at graph c.args.item)) values in
     -- one track more: either the item is sent in it, and its time counts, or it isn't
-    over_more (λ i. AreSent g (track_at (outcomes_asked asked) i) c.args.process c.args.item)
-    (λ i time. time ≡ unfrozen_send g c.args.process (last_course g (lane_at c.args.lanes.now i)))
+    over_more (λ i. AreSent graph (track_at (outcomes_asked asked) i) c.args.process c.args.item)
+    (λ i time. time ≡ unfrozen_send graph c.args.process (last_course graph (lane_at c.args.lanes.now i)))
     c.loop-i.i c.loop-i.latest c.send_time-time.result c.later-latest.result c.loop-i.invariant c.later-latest.ensures
-    (elim (cases_Bool (active g a.scenario.now.values c.args.process)) [
-      | inl on ↦ elim (cases_Bool (item_active g a.scenario.now.values (item_at g c.args.item))) [
+    (elim (cases_Bool (active graph track.scenario.now.values c.args.process)) [
+      | inl on ↦ elim (cases_Bool (item_active graph track.scenario.now.values (item_at graph c.args.item))) [
         -- the process is active and the item is sent
         | inl sent ↦ inl (
-          unfrozen_send g c.args.process (last_course g c.index-lanes-i.result),
+          unfrozen_send graph c.args.process (last_course graph c.index-lanes-i.result),
           c.send_time-time.ensures.acts on sent,
           record { acts = acts_same ∙ on; sent = sent_same ∙ sent },
-          ap (λ (ls : List ProgressState). unfrozen_send g c.args.process (last_course g ls)) lane,
+          ap (λ (ls : List ProgressState). unfrozen_send graph c.args.process (last_course graph ls)) lane,
         )
         -- the process is active, but not the item
         | inr unsent ↦

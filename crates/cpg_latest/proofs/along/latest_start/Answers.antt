@@ -44,61 +44,62 @@ start-requires-clause-asked c =
 
 -- the lane of this track has a course for each number of faults
 pub start-requires-clause-count : goal.start-requires-clause-count
-start-requires-clause-count c = let t = subst (TellsStart c.args.setting.now.problem.now) (sym c.index-lanes-i.is)
+start-requires-clause-count c = let tells = subst (TellsStart c.args.setting.now.problem.now) (sym c.index-lanes-i.is)
     (c.requires.lanes.each c.loop-i.i c.index-lanes-i.result
     (omega (arith, c.loop-i-test.true, c.requires.lanes.count))) in
-    t.count
+    tells.count
 
 -- the last course of this lane says when each node is ready
 pub start-requires-clause-ready : goal.start-requires-clause-ready
-start-requires-clause-ready c = let t = subst (TellsStart c.args.setting.now.problem.now) (sym c.index-lanes-i.is)
+start-requires-clause-ready c = let tells = subst (TellsStart c.args.setting.now.problem.now) (sym c.index-lanes-i.is)
     (c.requires.lanes.each c.loop-i.i c.index-lanes-i.result
     (omega (arith, c.loop-i-test.true, c.requires.lanes.count))) in
-    t.ready
+    tells.ready
 
 -- the times in the last course of this lane are below 2 ^ 59, as the lanes tell
 pub start-requires-clause-small : goal.start-requires-clause-small
-start-requires-clause-small c = let t = subst (TellsStart c.args.setting.now.problem.now) (sym c.index-lanes-i.is)
+start-requires-clause-small c = let tells = subst (TellsStart c.args.setting.now.problem.now) (sym c.index-lanes-i.is)
     (c.requires.lanes.each c.loop-i.i c.index-lanes-i.result
     (omega (arith, c.loop-i-test.true, c.requires.lanes.count))) in
-    t.small
+    tells.small
 
 -- with this track the latest start is that over one track more: its start counts if the process is active in it
 pub loop-i-preserved : goal.loop-i-preserved
 loop-i-preserved c =
-    let g = c.args.setting.now.problem.now in
+    let graph = c.args.setting.now.problem.now in
     let asked = c.args.asked.now in
-    let a = c.index-asked-i.result in
+    let track = c.index-asked-i.result in
     -- the track at hand has the values that are asked, and its lane is the one that is read
     let inside : c.loop-i.i < length asked = omega
     (arith, c.loop-i-test.true, c.requires.lanes.count, length-map asked (λ (a : Asked). a.scenario.now.values)) in
-    let is = c.requires.asked c.loop-i.i a inside in
-    let one = subst (IsAsked g c.args.setting.now.guards.now c.args.process) (sym c.index-asked-i.is) is in
-    let values : track_at (outcomes_asked asked) c.loop-i.i ≡ a.scenario.now.values =
-    outcome_asked asked c.loop-i.i a inside ∙ ap (λ (b : Asked). b.scenario.now.values) (sym c.index-asked-i.is) in
+    let is = c.requires.asked c.loop-i.i track inside in
+    let one = subst (IsAsked graph c.args.setting.now.guards.now c.args.process) (sym c.index-asked-i.is) is in
+    let values : track_at (outcomes_asked asked) c.loop-i.i ≡ track.scenario.now.values =
+    outcome_asked asked c.loop-i.i track inside ∙ ap (λ (b : Asked). b.scenario.now.values) (sym c.index-asked-i.is) in
     let lane : c.index-lanes-i.result ≡ lane_at c.args.lanes.now c.loop-i.i =
     c.index-lanes-i.is ∙ get_or_default c.args.lanes.now c.loop-i.i c.index-lanes-i.result [] c.loop-i-test.true in
     -- one track more: either the process is active in it, and its start counts, or it isn't
-    over_more (λ i. active g (track_at (outcomes_asked asked) i) c.args.process ≡ true)
-    (λ i time. IsUnfrozenStart g (track_at (outcomes_asked asked) i) c.args.process
-    (last_course g (lane_at c.args.lanes.now i)) time)
+    over_more (λ i. active graph (track_at (outcomes_asked asked) i) c.args.process ≡ true)
+    (λ i time. IsUnfrozenStart graph (track_at (outcomes_asked asked) i) c.args.process
+    (last_course graph (lane_at c.args.lanes.now i)) time)
     c.loop-i.i c.loop-i.latest c.start.result c.later-latest.result c.loop-i.invariant c.later-latest.ensures
-    (elim (cases_Bool a.acts) [
+    (elim (cases_Bool track.acts) [
       -- the process is active: its unfrozen start is the time of this track
       | inl on ↦
-          let t = c.start.ensures.acts on in
+          let acts = c.start.ensures.acts on in
           inl (
-            t.0,
-            t.1,
-            ap (λ v. active g v c.args.process) values ∙ sym one.acts ∙ on,
-            subst (λ (ls : List ProgressState). IsUnfrozenStart g
-                (track_at (outcomes_asked asked) c.loop-i.i) c.args.process (last_course g ls) t.0) lane
+            acts.0,
+            acts.1,
+            ap (λ v. active graph v c.args.process) values ∙ sym one.acts ∙ on,
+            subst (λ (ls : List ProgressState). IsUnfrozenStart graph
+                (track_at (outcomes_asked asked) c.loop-i.i) c.args.process (last_course graph ls) acts.0) lane
                 (subst (λ (v : List Bool).
-                IsUnfrozenStart g v c.args.process (last_course g c.index-lanes-i.result) t.0) (sym values) t.2),
+                IsUnfrozenStart graph v c.args.process (last_course graph c.index-lanes-i.result) acts.0)
+                (sym values) acts.2),
           )
       -- the process is not active
       | inr off ↦ inr (
-        λ on. true≢false (sym on ∙ ap (λ v. active g v c.args.process) values ∙ sym one.acts ∙ off),
+        λ on. true≢false (sym on ∙ ap (λ v. active graph v c.args.process) values ∙ sym one.acts ∙ off),
         c.start.ensures.idle off,
       )
     ])

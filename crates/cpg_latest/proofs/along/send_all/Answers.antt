@@ -24,10 +24,10 @@ send_each-requires-clause-frozen c = c.settle_send.ensures.settled.count
 -- settled frozen times are no later than their items could be, so they are below 2 ^ 58
 pub send_each-requires-clause-early : goal.send_each-requires-clause-early
 send_each-requires-clause-early c =
-    let g = c.args.setting.now.problem.now in
+    let graph = c.args.setting.now.problem.now in
     let order = c.args.setting.now.order.now in
-    early_of g order c.requires.setting.topological c.requires.setting.admitted.1.limits
-    (IsDone g order c.args.process (c.loop-at.at + 1)) c.settle_send.new.frozen c.settle_send.ensures.settled
+    early_of graph order c.requires.setting.topological c.requires.setting.admitted.1.limits
+    (IsDone graph order c.args.process (c.loop-at.at + 1)) c.settle_send.new.frozen c.settle_send.ensures.settled
 
 -- the place is one of the queue
 pub send_each-requires-clause-at : goal.send_each-requires-clause-at

@@ -28,15 +28,15 @@ send-requires-clause-asked c =
 -- the lane at this place is that of the track that was asked there
 pub send-requires-clause-lane : goal.send-requires-clause-lane
 send-requires-clause-lane c =
-    let g = c.args.setting.now.problem.now in
+    let graph = c.args.setting.now.problem.now in
     let asked = c.args.asked.now in
-    let a = c.index-asked-i.result in
-    let values : track_at (outcomes_asked asked) c.loop-i.i ≡ a.scenario.now.values =
-    outcome_asked asked c.loop-i.i a c.loop-i-test.true ∙
+    let track = c.index-asked-i.result in
+    let values : track_at (outcomes_asked asked) c.loop-i.i ≡ track.scenario.now.values =
+    outcome_asked asked c.loop-i.i track c.loop-i-test.true ∙
     ap (λ (b : Asked). b.scenario.now.values) (sym c.index-asked-i.is) in
-    subst (IsLane g ((HasSentTo c.args.setting.now c.args.frozen.now c.args.process (c.args.at + 1) c.args.at)
-    a.scenario.now.values)) (sym c.index_mut.ensures.value)
-    (subst (λ (v : List Bool). IsLane g ((HasSentTo c.args.setting.now c.args.frozen.now c.args.process
+    subst (IsLane graph ((HasSentTo c.args.setting.now c.args.frozen.now c.args.process (c.args.at + 1) c.args.at)
+    track.scenario.now.values)) (sym c.index_mut.ensures.value)
+    (subst (λ (v : List Bool). IsLane graph ((HasSentTo c.args.setting.now c.args.frozen.now c.args.process
     (c.args.at + 1) c.args.at) v) (get_or c.loop-i.lanes.items c.loop-i.i c.index_mut.result.now))
     values (c.loop-i.invariant.left c.loop-i.i c.index_mut.result.now (omega arith) c.loop-i-test.true))
 
@@ -47,18 +47,19 @@ index_mut-requires c = omega (arith, c.loop-i-test.true, c.loop-i.invariant.coun
 -- the item is sent in one lane more, and the other lanes stay
 pub loop-i-preserved : goal.loop-i-preserved
 loop-i-preserved c =
-    let g = c.args.setting.now.problem.now in
+    let graph = c.args.setting.now.problem.now in
     let asked = c.args.asked.now in
-    let a = c.index-asked-i.result in
-    let values : track_at (outcomes_asked asked) c.loop-i.i ≡ a.scenario.now.values =
-    outcome_asked asked c.loop-i.i a c.loop-i-test.true ∙
+    let track = c.index-asked-i.result in
+    let values : track_at (outcomes_asked asked) c.loop-i.i ≡ track.scenario.now.values =
+    outcome_asked asked c.loop-i.i track c.loop-i-test.true ∙
     ap (λ (b : Asked). b.scenario.now.values) (sym c.index-asked-i.is) in
-    half_more (LaneHas g (HasSentTo c.args.setting.now c.args.frozen.now c.args.process (c.args.at + 1) c.args.at)
+    half_more (LaneHas graph (HasSentTo c.args.setting.now c.args.frozen.now c.args.process (c.args.at + 1) c.args.at)
     (outcomes_asked asked))
-    (LaneHas g (HasSentTo c.args.setting.now c.args.frozen.now c.args.process (c.args.at + 1) (c.args.at + 1))
+    (LaneHas graph (HasSentTo c.args.setting.now c.args.frozen.now c.args.process (c.args.at + 1) (c.args.at + 1))
     (outcomes_asked asked))
     (length asked) c.loop-i.i c.loop-i.lanes.items _ c.send.new.self c.loop-i.invariant c.loop-i-test.true
-    (subst (λ (v : List Bool). IsLane g ((HasSentTo c.args.setting.now c.args.frozen.now c.args.process (c.args.at + 1)
+    (subst (λ (v : List Bool). IsLane graph
+    ((HasSentTo c.args.setting.now c.args.frozen.now c.args.process (c.args.at + 1)
     (c.args.at + 1)) v) c.send.new.self) (sym values) c.send.ensures) refl
 
 -- after the loop the item is sent in the lanes of all tracks

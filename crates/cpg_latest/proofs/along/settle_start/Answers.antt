@@ -12,16 +12,16 @@ use Rattle.cpg_latest.proofs.along.settle_start.Goals as goal
 -- the start isn't frozen, so it has no frozen time, and the frozen times stay settled with it
 pub returns-then-not-is_frozen-clause-settled : goal.returns-then-not-is_frozen-clause-settled
 returns-then-not-is_frozen-clause-settled c =
-    let g = c.args.setting.now.problem.now in
+    let graph = c.args.setting.now.problem.now in
     let order = c.args.setting.now.order.now in
-    let p = c.args.process in
+    let process = c.args.process in
     let frozen = c.args.frozen.now in
     let top = c.requires.setting.topological in
     let limits = c.requires.setting.admitted.1.limits in
-    settled_idle g order top limits (IsEarlier g order (place order p))
-    (IsDone g order p 0) frozen c.requires.known.settled p (omega (arith, c.requires.process))
-    (start_later g order top p c.requires.process) (start_grows g order top p c.requires.process)
-    (start_one g order top p c.requires.process) (start_only g order top p c.requires.process)
+    settled_idle graph order top limits (IsEarlier graph order (place order process))
+    (IsDone graph order process 0) frozen c.requires.known.settled process (omega (arith, c.requires.process))
+    (start_later graph order top process c.requires.process) (start_grows graph order top process c.requires.process)
+    (start_one graph order top process c.requires.process) (start_only graph order top process c.requires.process)
     (sym c.is_frozen.ensures ∙ c.if-not-is_frozen.true)
 
 -- a process that isn't frozen leaves the list of frozen times as it is
@@ -31,21 +31,21 @@ returns-then-not-is_frozen-clause-others c = record { others = λ y other. refl;
 -- the last course of each lane has what `latest_start` requires, as its times are known up to the process, and small
 pub latest_start-latest-requires-clause-lanes : goal.latest_start-latest-requires-clause-lanes
 latest_start-latest-requires-clause-lanes c =
-    let g = c.args.setting.now.problem.now in
+    let graph = c.args.setting.now.problem.now in
     let order = c.args.setting.now.order.now in
-    let p = c.args.process in
+    let process = c.args.process in
     let frozen = c.args.frozen.now in
     let top = c.requires.setting.topological in
     let limits = c.requires.setting.admitted.1.limits in
-    tell_starts g c.requires.setting.admitted.0 order frozen (outcomes_asked c.args.asked.now)
+    tell_starts graph c.requires.setting.admitted.0 order frozen (outcomes_asked c.args.asked.now)
     c.requires.setting.admitted.1.urgency c.requires.setting.admitted.1.topological top c.requires.tracks
-    p c.requires.process (on_graph g limits p c.requires.process) limits
-    (early_of g order top limits (IsEarlier g order (place order p)) frozen c.requires.known.settled)
-    -- the start of p isn't done yet, so it has no frozen time
-    (not_yet g order top limits (IsEarlier g order (place order p))
-    (IsDone g order p 0) frozen c.requires.known.settled p (omega (arith, c.requires.process))
-    (start_later g order top p c.requires.process) (start_grows g order top p c.requires.process)
-    (start_one g order top p c.requires.process) (start_only g order top p c.requires.process))
+    process c.requires.process (on_graph graph limits process c.requires.process) limits
+    (early_of graph order top limits (IsEarlier graph order (place order process)) frozen c.requires.known.settled)
+    -- the start of the process isn't done yet, so it has no frozen time
+    (not_yet graph order top limits (IsEarlier graph order (place order process))
+    (IsDone graph order process 0) frozen c.requires.known.settled process (omega (arith, c.requires.process))
+    (start_later graph order top process c.requires.process) (start_grows graph order top process c.requires.process)
+    (start_one graph order top process c.requires.process) (start_only graph order top process c.requires.process))
     c.args.lanes.now c.requires.known.known
 
 -- the process is an item that the list of frozen times has a place for
@@ -55,43 +55,43 @@ settle-requires-clause-item c = omega (arith, c.requires.process, c.requires.kno
 -- the start is not done yet, so no frozen time of it is set
 pub settle-requires-clause-unset : goal.settle-requires-clause-unset
 settle-requires-clause-unset c =
-    let g = c.args.setting.now.problem.now in
+    let graph = c.args.setting.now.problem.now in
     let order = c.args.setting.now.order.now in
-    let p = c.args.process in
+    let process = c.args.process in
     let frozen = c.args.frozen.now in
     let top = c.requires.setting.topological in
     let limits = c.requires.setting.admitted.1.limits in
-    not_yet g order top limits (IsEarlier g order (place order p))
-    (IsDone g order p 0) frozen c.requires.known.settled p (omega (arith, c.requires.process))
-    (start_later g order top p c.requires.process) (start_grows g order top p c.requires.process)
-    (start_one g order top p c.requires.process) (start_only g order top p c.requires.process)
+    not_yet graph order top limits (IsEarlier graph order (place order process))
+    (IsDone graph order process 0) frozen c.requires.known.settled process (omega (arith, c.requires.process))
+    (start_later graph order top process c.requires.process) (start_grows graph order top process c.requires.process)
+    (start_one graph order top process c.requires.process) (start_only graph order top process c.requires.process)
 
 -- the latest start over all tracks is the greatest that the process would have if it were not frozen, and so is its frozen
 -- time
 pub returns-clause-settled : goal.returns-clause-settled
 returns-clause-settled c =
-    let g = c.args.setting.now.problem.now in
+    let graph = c.args.setting.now.problem.now in
     let order = c.args.setting.now.order.now in
-    let p = c.args.process in
+    let process = c.args.process in
     let frozen = c.args.frozen.now in
     let top = c.requires.setting.topological in
     let limits = c.requires.setting.admitted.1.limits in
     -- one more item is settled: the start of the process, which is frozen
-    settled_more g order top limits (IsEarlier g order (place order p))
-    (IsDone g order p 0) frozen c.requires.known.settled p (omega (arith, c.requires.process))
-    (start_later g order top p c.requires.process) (start_grows g order top p c.requires.process)
-    (start_one g order top p c.requires.process) (start_only g order top p c.requires.process)
+    settled_more graph order top limits (IsEarlier graph order (place order process))
+    (IsDone graph order process 0) frozen c.requires.known.settled process (omega (arith, c.requires.process))
+    (start_later graph order top process c.requires.process) (start_grows graph order top process c.requires.process)
+    (start_one graph order top process c.requires.process) (start_only graph order top process c.requires.process)
     (sym c.is_frozen.ensures ∙ c.if-not-is_frozen.false) c.settle.new.frozen
-    (subst (IsUnfrozenTime g order frozen p) (sym c.settle.ensures.time)
-    (start_over g c.requires.setting.admitted.0 order frozen (outcomes_asked c.args.asked.now)
+    (subst (IsUnfrozenTime graph order frozen process) (sym c.settle.ensures.time)
+    (start_over graph c.requires.setting.admitted.0 order frozen (outcomes_asked c.args.asked.now)
     c.requires.setting.admitted.1.urgency c.requires.setting.admitted.1.topological top c.requires.tracks
-    p c.requires.process (on_graph g limits p c.requires.process) limits
-    (early_of g order top limits (IsEarlier g order (place order p)) frozen c.requires.known.settled)
-    -- the start of p isn't done yet, so it has no frozen time
-    (not_yet g order top limits (IsEarlier g order (place order p))
-    (IsDone g order p 0) frozen c.requires.known.settled p (omega (arith, c.requires.process))
-    (start_later g order top p c.requires.process) (start_grows g order top p c.requires.process)
-    (start_one g order top p c.requires.process) (start_only g order top p c.requires.process))
+    process c.requires.process (on_graph graph limits process c.requires.process) limits
+    (early_of graph order top limits (IsEarlier graph order (place order process)) frozen c.requires.known.settled)
+    -- the start of the process isn't done yet, so it has no frozen time
+    (not_yet graph order top limits (IsEarlier graph order (place order process))
+    (IsDone graph order process 0) frozen c.requires.known.settled process (omega (arith, c.requires.process))
+    (start_later graph order top process c.requires.process) (start_grows graph order top process c.requires.process)
+    (start_one graph order top process c.requires.process) (start_only graph order top process c.requires.process))
     c.args.lanes.now c.requires.known.known c.latest_start-latest.result c.latest_start-latest.ensures))
     c.settle.ensures.others.others c.settle.ensures.others.count
 

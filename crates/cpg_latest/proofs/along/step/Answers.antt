@@ -40,10 +40,10 @@ begin_each-requires-clause-frozen c = c.settle_start.ensures.settled.count
 -- settled frozen times are no later than their items could be, so they are below 2 ^ 58
 pub begin_each-requires-clause-early : goal.begin_each-requires-clause-early
 begin_each-requires-clause-early c =
-    let g = c.args.setting.now.problem.now in
+    let graph = c.args.setting.now.problem.now in
     let order = c.args.setting.now.order.now in
-    early_of g order c.requires.setting.topological c.requires.setting.admitted.1.limits
-    (IsDone g order c.args.process 0) c.settle_start.new.frozen c.settle_start.ensures.settled
+    early_of graph order c.requires.setting.topological c.requires.setting.admitted.1.limits
+    (IsDone graph order c.args.process 0) c.settle_start.new.frozen c.settle_start.ensures.settled
 
 -- each answer is what a track says of the process, as `ask_each` ensures, and the slice has these answers
 pub begin_each-requires-clause-asked : goal.begin_each-requires-clause-asked

@@ -7,7 +7,7 @@ use Rattle.cpg_latest.proofs.asking.live_inputs.Goals as goal
 -- an input of the process is an edge of the graph
 pub is_live-requires-clause-edge : goal.is_live-requires-clause-edge
 is_live-requires-clause-edge c =
-    let e = get_or c.inputs-edge-items.result.now c.loop-edge.edge-index 0 in
-    (inputs_parts c.args.setting.now.problem.now c.args.process e
-    (subst (λ es. Contains es e) c.inputs-edge-items.ensures
+    let edge = get_or c.inputs-edge-items.result.now c.loop-edge.edge-index 0 in
+    (inputs_parts c.args.setting.now.problem.now c.args.process edge
+    (subst (λ es. Contains es edge) c.inputs-edge-items.ensures
     (Contains-get_or c.inputs-edge-items.result.now c.loop-edge.edge-index 0 c.loop-edge-test.true))).0

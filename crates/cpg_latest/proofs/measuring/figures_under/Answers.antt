@@ -21,14 +21,14 @@ use Rattle.cpg_latest.proofs.measuring.figures_under.Goals as goal
 -- before the first place no item is done, so no frozen time is set, and nothing is known in any course
 pub loop-place-init : goal.loop-place-init
 loop-place-init c =
-    let g = c.of-setting.result.problem.now in
+    let graph = c.of-setting.result.problem.now in
     let order = c.of-setting.result.order.now in
-    let same : c.problem-problem.result.now ≡ g =
+    let same : c.problem-problem.result.now ≡ graph =
     c.problem-problem.ensures.problem ∙ sym c.of-setting.ensures.problem in
     record {
-      settled = subst (AreSettledOf g order (IsEarlier g order 0))
-          (sym (c.in_ok-frozen.ensures ∙ ap nothing_frozen same)) (settled_none g order);
-      known = lanes_first g order (IsEarlier g order 0) c.in_ok-frozen.frozen
+      settled = subst (AreSettledOf graph order (IsEarlier graph order 0))
+          (sym (c.in_ok-frozen.ensures ∙ ap nothing_frozen same)) (settled_none graph order);
+      known = lanes_first graph order (IsEarlier graph order 0) c.in_ok-frozen.frozen
           (outcomes_of c.args.tracks.now) c.in_ok-lanes.lanes.items (length c.args.tracks.now)
           (sym (length-map c.args.tracks.now (λ (s : Scenario). s.values)))
           (c.in_ok-lanes.ensures ∙ ap (λ (h : Graph). replicate (length c.args.tracks.now) (no_lane h)) same);
@@ -57,11 +57,11 @@ step-requires-clause-process c = omega (
 pub step-requires-clause-values : goal.step-requires-clause-values
 step-requires-clause-values c i d l =
     let tracks = c.args.tracks.now in
-    let a = c.problem-problem.ensures.admitted in
+    let admitted = c.problem-problem.ensures.admitted in
     let none : List (Option ℕ) = [] in
     ap length (sym (outcome_at tracks i d l))
     ∙ long_track c.args.admitted.now.graph c.args.admitted.now.order c.args.order.now none
-    (outcomes_of tracks) a.urgency a.topological c.requires.topological c.requires.tracks i
+    (outcomes_of tracks) admitted.urgency admitted.topological c.requires.topological c.requires.tracks i
     (omega (arith, l, length-map tracks (λ (s : Scenario). s.values)))
     ∙ ap condition_count (sym c.of-setting.ensures.problem)
 
@@ -69,16 +69,16 @@ step-requires-clause-values c i d l =
 pub returns : goal.returns
 returns c =
     let setting = c.of-setting.result in
-    let g = setting.problem.now in
+    let graph = setting.problem.now in
     let order = setting.order.now in
     let lanes = c.loop-place.lanes.items in
-    let a = c.problem-problem.ensures.admitted in
+    let admitted = c.problem-problem.ensures.admitted in
     -- the setting has the graph and the order that were given
-    let here : c.args.admitted.now.graph ≡ g = sym c.of-setting.ensures.problem in
-    let same : c.problem-problem.result.now ≡ g = c.problem-problem.ensures.problem ∙ here in
+    let here : c.args.admitted.now.graph ≡ graph = sym c.of-setting.ensures.problem in
+    let same : c.problem-problem.result.now ≡ graph = c.problem-problem.ensures.problem ∙ here in
     let ordered : c.args.order.now ≡ order = sym c.of-setting.ensures.order in
     -- the place is behind the last process
-    let last : c.loop-place.place ≡ process_count g = omega (
+    let last : c.loop-place.place ≡ process_count graph = omega (
       arith,
       ap length c.processes.ensures.processes,
       ap process_count same,
@@ -88,7 +88,7 @@ returns c =
     let known = subst (λ n. AreLanesBefore setting (outcomes_of c.args.tracks.now) n c.loop-place.frozen lanes) last
     c.loop-place.invariant in
     -- what was required of the order holds in the setting's terms
-    let topological = subst (IsTopological g) ordered
+    let topological = subst (IsTopological graph) ordered
     (subst (λ (h : Graph). IsTopological h c.args.order.now) here c.requires.topological) in
     -- the figures that were found are those of the last courses
     let excess = subst (λ (h : Graph).
@@ -102,13 +102,14 @@ returns c =
     greatest (map (λ l. finish_of c.problem-problem.result.now (last_course c.problem-problem.result.now l)) ls))
     c.as_slice.ensures.value) in
     -- so they are the figures of the setting's order
-    let found = figures_found g c.args.admitted.now.order order c.loop-place.frozen (outcomes_of c.args.tracks.now)
-    (subst (λ (h : Graph). IsUrgencyOrder h c.args.admitted.now.order) here a.urgency)
-    (subst (λ (h : Graph). IsTopological h c.args.admitted.now.order) here a.topological) topological
+    let found = figures_found graph c.args.admitted.now.order order c.loop-place.frozen (outcomes_of c.args.tracks.now)
+    (subst (λ (h : Graph). IsUrgencyOrder h c.args.admitted.now.order) here admitted.urgency)
+    (subst (λ (h : Graph). IsTopological h c.args.admitted.now.order) here admitted.topological) topological
     (subst (λ (h : Graph). AreTracks h (outcomes_of c.args.tracks.now)) here c.requires.tracks) lanes
     known.settled known.known
     c.greatest_figures.result.excess c.greatest_figures.result.worst excess worst in
     -- and of the order that was given
     subst (λ (h : Graph).
     HasFigures h c.args.order.now c.greatest_figures.result.excess c.greatest_figures.result.worst) (sym here)
-    (subst (λ o. HasFigures g o c.greatest_figures.result.excess c.greatest_figures.result.worst) (sym ordered) found)
+    (subst (λ o. HasFigures graph o c.greatest_figures.result.excess c.greatest_figures.result.worst)
+    (sym ordered) found)

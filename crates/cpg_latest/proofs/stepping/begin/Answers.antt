@@ -13,9 +13,9 @@ use Rattle.cpg_latest.proofs.stepping.begin.Goals as goal
 -- the course knows latest times, which are below 2 ^ 59 under early frozen times
 pub ready-ready-requires-clause-small : goal.ready-ready-requires-clause-small
 ready-ready-requires-clause-small c =
-    let g = c.args.setting.now.problem.now in
+    let graph = c.args.setting.now.problem.now in
     let order = c.args.setting.now.order.now in
-    course_small g order c.requires.setting.topological (IsDone g order c.args.process 0) c.args.frozen.now
+    course_small graph order c.requires.setting.topological (IsDone graph order c.args.process 0) c.args.frozen.now
     c.args.asked.now.scenario.now.values c.requires.setting.admitted.1.limits
     c.requires.asked.long c.requires.early
     c.args.faults c.requires.faults (place order c.args.process) c.args.course.now c.requires.course
@@ -23,9 +23,9 @@ ready-ready-requires-clause-small c =
 -- the course knows latest times, which are below 2 ^ 59 under early frozen times
 pub unfrozen_start-unfrozen-requires-clause-small : goal.unfrozen_start-unfrozen-requires-clause-small
 unfrozen_start-unfrozen-requires-clause-small c =
-    let g = c.args.setting.now.problem.now in
+    let graph = c.args.setting.now.problem.now in
     let order = c.args.setting.now.order.now in
-    course_small g order c.requires.setting.topological (IsDone g order c.args.process 0) c.args.frozen.now
+    course_small graph order c.requires.setting.topological (IsDone graph order c.args.process 0) c.args.frozen.now
     c.args.asked.now.scenario.now.values c.requires.setting.admitted.1.limits
     c.requires.asked.long c.requires.early
     c.args.faults c.requires.faults (place order c.args.process) c.args.course.now c.requires.course
@@ -33,55 +33,67 @@ unfrozen_start-unfrozen-requires-clause-small c =
 -- the process is inactive, so all is known before the next place once its node has waited
 pub returns-then-not-asked-clause-sends : goal.returns-then-not-asked-clause-sends
 returns-then-not-asked-clause-sends c =
-    let g = c.args.setting.now.problem.now in
+    let graph = c.args.setting.now.problem.now in
     let order = c.args.setting.now.order.now in
-    let p = c.args.process in
+    let process = c.args.process in
     let values = c.args.asked.now.scenario.now.values in
-    let on : node_of g p < length g.nodes = omega (arith, c.node_of-node.ensures.node, c.node_of-node.ensures.within) in
-    let idle : active g values p ≡ false = sym c.requires.asked.acts ∙ c.if-not-asked.true in
-    subst (IsSending g order (IsDone g order p 0) c.args.frozen.now values p 0 c.args.faults)
+    let on : node_of graph process < length graph.nodes = omega (
+      arith,
+      c.node_of-node.ensures.node,
+      c.node_of-node.ensures.within,
+    ) in
+    let idle : active graph values process ≡ false = sym c.requires.asked.acts ∙ c.if-not-asked.true in
+    subst (IsSending graph order (IsDone graph order process 0) c.args.frozen.now values process 0 c.args.faults)
     (sym (c.wait.ensures ∙ ap (λ m. waited c.args.course.now m c.ready-ready.result) c.node_of-node.ensures.node))
-    (passed g order c.requires.setting.topological (IsDone g order p 0) c.args.frozen.now values p c.requires.process on
+    (passed graph order c.requires.setting.topological (IsDone graph order process 0) c.args.frozen.now values
+    process c.requires.process on
     c.args.faults c.requires.faults c.args.course.now c.requires.course
     c.ready-ready.result c.ready-ready.ensures idle)
 
 -- the start that is found is a latest time, so it is small
 pub latest_end-end-requires-clause-start : goal.latest_end-end-requires-clause-start
 latest_end-end-requires-clause-start c =
-    let g = c.args.setting.now.problem.now in
+    let graph = c.args.setting.now.problem.now in
     let order = c.args.setting.now.order.now in
-    let p = c.args.process in
+    let process = c.args.process in
     let values = c.args.asked.now.scenario.now.values in
-    let on : node_of g p < length g.nodes = omega (arith, c.node_of-node.ensures.node, c.node_of-node.ensures.within) in
+    let on : node_of graph process < length graph.nodes = omega (
+      arith,
+      c.node_of-node.ensures.node,
+      c.node_of-node.ensures.within,
+    ) in
     let acts = sym c.requires.asked.acts ∙ c.if-not-asked.false in
     -- the start that is found is a latest time of the process
     let is_start = c.max-start.ensures ∙ ap₂ max c.unfrozen_start-unfrozen.ensures c.frozen_time.ensures in
-    let is = start_is_latest g order c.requires.setting.topological (IsDone g order p 0) c.args.frozen.now values p
+    let is = start_is_latest graph order c.requires.setting.topological (IsDone graph order process 0)
+    c.args.frozen.now values process
     c.requires.process on c.args.faults c.requires.faults c.args.course.now
     c.requires.course
     c.ready-ready.result c.ready-ready.ensures
     (inr (inl refl)) acts c.max-start.result is_start c.args.frozen.now (λ x l d. refl)
-    (the_latest g order c.args.frozen.now values c.requires.setting.topological)
-    (latest_exist g order c.args.frozen.now values c.requires.setting.topological) in
+    (the_latest graph order c.args.frozen.now values c.requires.setting.topological)
+    (latest_exist graph order c.args.frozen.now values c.requires.setting.topological) in
     -- and latest times are small
-    let small = latest_small g order c.requires.setting.topological (IsDone g order p 0) c.args.frozen.now values
+    let small = latest_small graph order c.requires.setting.topological (IsDone graph order process 0)
+    c.args.frozen.now values
     c.requires.setting.admitted.1.limits c.requires.asked.long c.requires.early
     c.args.faults c.requires.faults in
-    omega (arith, is, small.times p)
+    omega (arith, is, small.times process)
 
 -- `last` is a latest end, or 0, and so below 2 ^ 60
 pub latest_end-end-requires-clause-last : goal.latest_end-end-requires-clause-last
 latest_end-end-requires-clause-last c =
-    let g = c.args.setting.now.problem.now in
+    let graph = c.args.setting.now.problem.now in
     let order = c.args.setting.now.order.now in
-    let p = c.args.process in
+    let process = c.args.process in
     let values = c.args.asked.now.scenario.now.values in
     let acts = sym c.requires.asked.acts ∙ c.if-not-asked.false in
     let is = c.requires.last c.if-not-asked.false c.args.frozen.now (λ x l d. refl)
-    (the_latest g order c.args.frozen.now values c.requires.setting.topological)
-    (latest_exist g order c.args.frozen.now values c.requires.setting.topological) in
-    let small = last_small g order c.requires.setting.topological (IsDone g order p 0) c.args.frozen.now values
-    c.requires.setting.admitted.1.limits c.requires.asked.long c.requires.early p
+    (the_latest graph order c.args.frozen.now values c.requires.setting.topological)
+    (latest_exist graph order c.args.frozen.now values c.requires.setting.topological) in
+    let small = last_small graph order c.requires.setting.topological (IsDone graph order process 0)
+    c.args.frozen.now values
+    c.requires.setting.admitted.1.limits c.requires.asked.long c.requires.early process
     c.requires.process acts
     c.args.faults c.requires.faults in
     omega (arith, is, small)
@@ -91,17 +103,23 @@ latest_end-end-requires-clause-last c =
 -- ready, that the process is active with its start, and its end with the end of one fault less.
 pub returns-clause-sends : goal.returns-clause-sends
 returns-clause-sends c =
-    let g = c.args.setting.now.problem.now in
+    let graph = c.args.setting.now.problem.now in
     let order = c.args.setting.now.order.now in
-    let p = c.args.process in
+    let process = c.args.process in
     let values = c.args.asked.now.scenario.now.values in
-    let on : node_of g p < length g.nodes = omega (arith, c.node_of-node.ensures.node, c.node_of-node.ensures.within) in
+    let on : node_of graph process < length graph.nodes = omega (
+      arith,
+      c.node_of-node.ensures.node,
+      c.node_of-node.ensures.within,
+    ) in
     let acts = sym c.requires.asked.acts ∙ c.if-not-asked.false in
     let is_start = c.max-start.ensures ∙ ap₂ max c.unfrozen_start-unfrozen.ensures c.frozen_time.ensures in
-    subst (IsSending g order (IsDone g order p 0) c.args.frozen.now values p 0 c.args.faults)
+    subst (IsSending graph order (IsDone graph order process 0) c.args.frozen.now values process 0 c.args.faults)
     (sym (c.begin.ensures
-    ∙ ap (λ m. begun c.args.course.now p m c.max-start.result c.latest_end-end.result) c.node_of-node.ensures.node))
-    (begins g order c.requires.setting.topological (IsDone g order p 0) c.args.frozen.now values p c.requires.process on
+    ∙ ap (λ m. begun c.args.course.now process m c.max-start.result c.latest_end-end.result)
+    c.node_of-node.ensures.node))
+    (begins graph order c.requires.setting.topological (IsDone graph order process 0) c.args.frozen.now values
+    process c.requires.process on
     c.args.faults c.requires.faults c.args.course.now c.requires.course
     c.ready-ready.result c.ready-ready.ensures (inr (inl refl)) acts c.max-start.result is_start c.latest_end-end.result
     c.args.last c.latest_end-end.ensures (c.requires.last c.if-not-asked.false))
@@ -109,14 +127,19 @@ returns-clause-sends c =
 -- the end follows from the latest start and from the latest end with one fault less as the latest end does
 pub returns-clause-end : goal.returns-clause-end
 returns-clause-end c on_asked =
-    let g = c.args.setting.now.problem.now in
+    let graph = c.args.setting.now.problem.now in
     let order = c.args.setting.now.order.now in
-    let p = c.args.process in
+    let process = c.args.process in
     let values = c.args.asked.now.scenario.now.values in
-    let on : node_of g p < length g.nodes = omega (arith, c.node_of-node.ensures.node, c.node_of-node.ensures.within) in
+    let on : node_of graph process < length graph.nodes = omega (
+      arith,
+      c.node_of-node.ensures.node,
+      c.node_of-node.ensures.within,
+    ) in
     let acts = sym c.requires.asked.acts ∙ c.if-not-asked.false in
     let is_start = c.max-start.ensures ∙ ap₂ max c.unfrozen_start-unfrozen.ensures c.frozen_time.ensures in
-    end_is_latest g order c.requires.setting.topological (IsDone g order p 0) c.args.frozen.now values p
+    end_is_latest graph order c.requires.setting.topological (IsDone graph order process 0)
+    c.args.frozen.now values process
     c.requires.process on c.args.faults c.requires.faults c.args.course.now c.requires.course
     c.ready-ready.result c.ready-ready.ensures (inr (inl refl)) acts c.max-start.result is_start c.latest_end-end.result
     c.args.last c.latest_end-end.ensures (c.requires.last c.if-not-asked.false)

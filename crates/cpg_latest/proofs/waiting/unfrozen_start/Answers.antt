@@ -10,7 +10,7 @@ use Rattle.cpg_latest.proofs.waiting.unfrozen_start.Goals as goal
 -- each live input of the process is an edge of the graph
 pub latest_there-inputs-requires-clause-edges : goal.latest_there-inputs-requires-clause-edges
 latest_there-inputs-requires-clause-edges c e k =
-    let g = c.args.setting.now.problem.now in
+    let graph = c.args.setting.now.problem.now in
     let is = c.as_slice.ensures ∙ c.requires.asked.inputs in
-    (inputs_parts g c.args.process e (Contains-filter_parts (live g c.args.asked.now.scenario.now.values)
-    (inputs g c.args.process) e (subst (λ es. Contains es e) is k)).0).0
+    (inputs_parts graph c.args.process e (Contains-filter_parts (live graph c.args.asked.now.scenario.now.values)
+    (inputs graph c.args.process) e (subst (λ es. Contains es e) is k)).0).0

@@ -13,13 +13,14 @@ use Rattle.cpg_list.proofs.cubes.narrow_to_number.Goals as goal
 -- is narrowed by that literal
 pub returns : goal.returns
 returns c =
-    let g = c.args.problem.now in
-    let l : Literal = number_known c.args.scenario.now c.args.variable in
-    let made : c.as_slice.result.now ≡ l ∷ [] = c.as_slice.ensures
-    ∙ ap (λ n. let x : Literal = record { variable = c.args.variable; low = n; high = n } in x ∷ [])
+    let graph = c.args.problem.now in
+    let literal : Literal = number_known c.args.scenario.now c.args.variable in
+    let made : c.as_slice.result.now ≡ literal ∷ [] = c.as_slice.ensures
+    ∙ ap (λ n. let one : Literal = record { variable = c.args.variable; low = n; high = n } in one ∷ [])
     c.number-number.ensures in
-    let high = number_at_most g c.processes-processes.ensures.within.few_processes c.args.scenario.now c.requires
+    let high = number_at_most graph c.processes-processes.ensures.within.few_processes c.args.scenario.now c.requires
     c.args.variable in
-    subst (IsNarrowed g.faults (l ∷ []) c.args.cube.now) (sym (c.in_ok-narrow.ensures ∙ ap (met c.args.cube.now) made))
-    (met_narrowed g.faults (l ∷ []) c.args.cube.now
-    (λ m j. subst (λ (x : Literal). x.high ≤ top g.faults x.variable) (only_one l m j) high))
+    subst (IsNarrowed graph.faults (literal ∷ []) c.args.cube.now)
+    (sym (c.in_ok-narrow.ensures ∙ ap (met c.args.cube.now) made))
+    (met_narrowed graph.faults (literal ∷ []) c.args.cube.now
+    (λ m j. subst (λ (x : Literal). x.high ≤ top graph.faults x.variable) (only_one literal m j) high))

@@ -10,14 +10,16 @@ use Rattle.cpg_list.proofs.cubes.push_all.Goals as goal
 pub push-requires : goal.push-requires
 push-requires c =
     let none : Literal = record { variable = 0; low = 0; high = 0 } in
-    let i = c.loop-literal.literal-index in
+    let index = c.loop-literal.literal-index in
     let ls = c.args.literals.now in
     -- the old cube and all literals are the cube so far, this literal and the literals left
-    let split : c.args.cube.now ++ ls ≡ c.loop-literal.cube ++ get_or ls i none ∷ drop (suc i) ls =
+    let split : c.args.cube.now ++ ls ≡ c.loop-literal.cube ++ get_or ls index none ∷ drop (suc index) ls =
     ap (λ xs. c.args.cube.now ++ xs)
-    (sym (take-append-drop i ls) ∙ ap (λ xs. take i ls ++ xs) (drop-cons ls i none c.loop-literal-test.true))
-    ∙ sym (append_assoc c.args.cube.now (take i ls) (get_or ls i none ∷ drop (suc i) ls))
-    ∙ ap (λ xs. xs ++ get_or ls i none ∷ drop (suc i) ls) (sym c.loop-literal.invariant) in
+    (sym (take-append-drop index ls)
+    ∙ ap (λ xs. take index ls ++ xs) (drop-cons ls index none c.loop-literal-test.true))
+    ∙ sym (append_assoc c.args.cube.now (take index ls) (get_or ls index none ∷ drop (suc index) ls))
+    ∙ ap (λ xs. xs ++ get_or ls index none ∷ drop (suc index) ls) (sym c.loop-literal.invariant) in
     record {
-      last = all_lower c.loop-literal.cube (get_or ls i none) (drop (suc i) ls) (subst IsRising split c.requires);
+      last = all_lower c.loop-literal.cube (get_or ls index none) (drop (suc index) ls)
+          (subst IsRising split c.requires);
     }

@@ -64,19 +64,20 @@ loop-one-preserved-then-other-one c = record {
 pub push-requires-else-other-one : goal.push-requires-else-other-one
 push-requires-else-other-one c =
     -- neither variable is below the other, so they are one
-    let e : c.in-Some.one.now.variable ≡ c.in-Some-split_first.other.now.variable =
+    let same_variable : c.in-Some.one.now.variable ≡ c.in-Some-split_first.other.now.variable =
     omega (arith, c.if-one-other.false, c.if-other-one.false) in
-    let v : c.both.result.variable ≡ c.in-Some.one.now.variable = ap (λ (x : Literal). x.variable) c.both.ensures in
+    let variable_is : c.both.result.variable ≡ c.in-Some.one.now.variable = ap (λ (x : Literal).
+    x.variable) c.both.ensures in
     record {
       last = λ k d h. omega (
         arith,
-        v,
+        variable_is,
         lower_here c.args.cube.now c.loop-one.cube c.args.first.now c.args.second.now c.loop-one.ones.now
             c.loop-one.others.now
             c.in-Some.one.now c.in-Some.ones_left.now c.in-Some-split_first.other.now
             c.in-Some-split_first.others_left.now
             c.requires.both c.loop-one.invariant.second c.loop-one.invariant.all c.in-Some.ensures.cases.0
-            c.in-Some-split_first.ensures.cases.0 e k d h,
+            c.in-Some-split_first.ensures.cases.0 same_variable k d h,
       );
     }
 
@@ -84,7 +85,7 @@ push-requires-else-other-one c =
 pub loop-one-preserved : goal.loop-one-preserved
 loop-one-preserved c =
     -- neither variable is below the other, so they are one
-    let e : c.in-Some.one.now.variable ≡ c.in-Some-split_first.other.now.variable =
+    let same_variable : c.in-Some.one.now.variable ≡ c.in-Some-split_first.other.now.variable =
     omega (arith, c.if-one-other.false, c.if-other-one.false) in
     record {
       first = rising_left c.loop-one.ones.now c.in-Some.one.now c.in-Some.ones_left.now c.loop-one.invariant.first
@@ -97,7 +98,7 @@ loop-one-preserved c =
           c.in-Some-split_first.others_left.now
           c.requires.both c.loop-one.invariant.second c.loop-one.invariant.all c.in-Some.ensures.cases.0
           c.in-Some-split_first.ensures.cases.0
-          c.push-else-other-one.new.self e
+          c.push-else-other-one.new.self same_variable
           (c.in_ok-push-3.ensures.pushed ∙ ap (λ x. c.loop-one.cube ++ x ∷ []) c.both.ensures);
     }
 
@@ -105,9 +106,9 @@ loop-one-preserved c =
 pub push_all-requires : goal.push_all-requires
 push_all-requires c =
     let none = nothing c.loop-one.ones.now (omega (arith, c.in_default.ensures.cases)) in
-    let e = c.loop-one.invariant.all ∙ ap (λ x. c.loop-one.cube ++ x)
+    let follows = c.loop-one.invariant.all ∙ ap (λ x. c.loop-one.cube ++ x)
     (nothing_left c.loop-one.others.now c.loop-one.invariant.second c.loop-one.ones.now none) in
-    subst IsRising e c.requires.both
+    subst IsRising follows c.requires.both
 
 -- no literal of the first cube is left, so what is left of the two, met, is just the rest of the second
 pub returns-in_default : goal.returns-in_default

@@ -15,23 +15,25 @@ use Rattle.cpg_list.proofs.learning.deciding.Goals as goal
 -- numbers
 pub returns : goal.returns
 returns c =
-    let a = c.args.admitted.now in
-    let g = a.graph in
-    let order = a.order in
+    let admitted = c.args.admitted.now in
+    let graph = admitted.graph in
+    let order = admitted.order in
     let is = c.order-order.ensures.admitted in
-    let test = decides g c.args.scenario.now.values c.args.process in
+    let test = decides graph c.args.scenario.now.values c.args.process in
     -- what is listed is the conditions that decide, along the order
-    let along : c.in_ok-conditions.conditions.items ≡ deciding_along g order c.args.scenario.now.values c.args.process =
-    c.in_ok-conditions.ensures.deciding g order is.urgency is.topological
-    (subst (AreGuardsOf g order) (sym c.guards-guards.ensures.guards) is.guards) in
+    let along : c.in_ok-conditions.conditions.items
+    ≡ deciding_along graph order c.args.scenario.now.values c.args.process =
+    c.in_ok-conditions.ensures.deciding graph order is.urgency is.topological
+    (subst (AreGuardsOf graph order) (sym c.guards-guards.ensures.guards) is.guards) in
     -- each listed condition decides the process, and each that does is listed
-    subst (AreDeciding g c.args.scenario.now c.args.process) (sym along) (record {
-      each = λ x j.
-          let r = Contains-filter_parts test (conditions_along g order) x j in
-          Contains-filter test (numbers_below (condition_count g)) x r.1
-          (Contains-numbers (condition_count g) x (from_along g order x r.0).0);
-      all = λ x j.
-          let r = Contains-filter_parts test (numbers_below (condition_count g)) x j in
-          Contains-filter test (conditions_along g order) x r.1
-          (Contains-along g order is.topological x (numbers-Contains (condition_count g) x r.0));
+    subst (AreDeciding graph c.args.scenario.now c.args.process) (sym along) (record {
+      each = λ condition there.
+          let parts = Contains-filter_parts test (conditions_along graph order) condition there in
+          Contains-filter test (numbers_below (condition_count graph)) condition parts.1
+          (Contains-numbers (condition_count graph) condition (from_along graph order condition parts.0).0);
+      all = λ condition there.
+          let parts = Contains-filter_parts test (numbers_below (condition_count graph)) condition there in
+          Contains-filter test (conditions_along graph order) condition parts.1
+          (Contains-along graph order is.topological condition
+          (numbers-Contains (condition_count graph) condition parts.0));
     })

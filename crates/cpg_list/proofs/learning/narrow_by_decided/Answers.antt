@@ -13,18 +13,19 @@ use Rattle.cpg_list.proofs.learning.narrow_by_decided.Goals as goal
 -- the deciding conditions are chosen among the conditions of the graph
 pub narrow_by_values-requires-clause-conditions : goal.narrow_by_values-requires-clause-conditions
 narrow_by_values-requires-clause-conditions c d j =
-    let g = c.args.problem.now in
-    numbers-Contains (condition_count g) d (Contains-filter_parts (decides g c.args.scenario.now.values c.args.process)
-    (numbers_below (condition_count g)) d (c.requires.conditions.each d j)).0
+    let graph = c.args.problem.now in
+    numbers-Contains (condition_count graph) d
+    (Contains-filter_parts (decides graph c.args.scenario.now.values c.args.process)
+    (numbers_below (condition_count graph)) d (c.requires.conditions.each d j)).0
 
 -- the given conditions are those that decide the process in another order, and to a cube the order of literals is the same
 pub returns : goal.returns
 returns c =
-    let g = c.args.problem.now in
-    let s = c.args.scenario.now in
-    let all = deciding g s.values c.args.process in
-    let f : ℕ → Literal = λ d. number_known s (value_variable d) in
-    narrowed_same g.faults (map f c.args.conditions.now)
-    (decided g s c.args.process) c.args.cube.now c.narrow_by_values.new.cube
-    (within_map c.args.conditions.now all c.requires.conditions.each f)
-    (within_map all c.args.conditions.now c.requires.conditions.all f) c.in_ok-narrow_by_values.ensures
+    let graph = c.args.problem.now in
+    let scenario = c.args.scenario.now in
+    let all = deciding graph scenario.values c.args.process in
+    let literal : ℕ → Literal = λ d. number_known scenario (value_variable d) in
+    narrowed_same graph.faults (map literal c.args.conditions.now)
+    (decided graph scenario c.args.process) c.args.cube.now c.narrow_by_values.new.cube
+    (within_map c.args.conditions.now all c.requires.conditions.each literal)
+    (within_map all c.args.conditions.now c.requires.conditions.all literal) c.in_ok-narrow_by_values.ensures

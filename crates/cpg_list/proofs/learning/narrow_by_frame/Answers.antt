@@ -11,9 +11,10 @@ use Rattle.cpg_list.proofs.learning.narrow_by_frame.Goals as goal
 -- past the greatest number of its variable, so it is narrowed by them
 pub returns : goal.returns
 returns c =
-    let k = c.args.frames.now.problem.now.faults in
-    let s = c.args.frames.now.scenario.now in
+    let faults = c.args.frames.now.problem.now.faults in
+    let scenario = c.args.frames.now.scenario.now in
     let row = row_at (columns_of_rows c.args.frames.now.rows.now) c.args.item in
-    subst (IsNarrowed k (carried_in_columns row s) c.args.cube.now) (sym (c.in_ok-narrow_by_told.ensures
-    ∙ ap (λ cs. met c.args.cube.now (carried_in_columns cs s)) c.row_of-row.ensures))
-    (met_narrowed k (carried_in_columns row s) c.args.cube.now (told_highs row s k c.requires.within))
+    subst (IsNarrowed faults (carried_in_columns row scenario) c.args.cube.now) (sym (c.in_ok-narrow_by_told.ensures
+    ∙ ap (λ cs. met c.args.cube.now (carried_in_columns cs scenario)) c.row_of-row.ensures))
+    (met_narrowed faults (carried_in_columns row scenario) c.args.cube.now
+    (told_highs row scenario faults c.requires.within))

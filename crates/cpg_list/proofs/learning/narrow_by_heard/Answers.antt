@@ -15,9 +15,9 @@ use Rattle.cpg_list.proofs.learning.narrow_by_heard.Goals as goal
 -- the deciding conditions are chosen among the conditions of the graph
 pub narrow_by_conditions-requires-clause-conditions : goal.narrow_by_conditions-requires-clause-conditions
 narrow_by_conditions-requires-clause-conditions c d j =
-    let g = c.args.frames.now.problem.now in
-    numbers-Contains (condition_count g) d (Contains-filter_parts
-    (decides g c.args.frames.now.scenario.now.values c.args.process) (numbers_below (condition_count g)) d
+    let graph = c.args.frames.now.problem.now in
+    numbers-Contains (condition_count graph) d (Contains-filter_parts
+    (decides graph c.args.frames.now.scenario.now.values c.args.process) (numbers_below (condition_count graph)) d
     (c.requires.conditions.each d j)).0
 
 -- the row of each deciding condition's broadcast is made
@@ -27,16 +27,17 @@ narrow_by_conditions-requires-clause-told c d j = c.requires.told d (c.requires.
 -- the given conditions are those that decide the process in another order, and to a cube the order of literals is the same
 pub returns : goal.returns
 returns c =
-    let g = c.args.frames.now.problem.now in
-    let s = c.args.frames.now.scenario.now in
+    let graph = c.args.frames.now.problem.now in
+    let scenario = c.args.frames.now.scenario.now in
     let rows = columns_of_rows c.args.frames.now.rows.now in
     let node = c.node_of-node.result in
-    let all = deciding g s.values c.args.process in
-    let f = heard_of g rows s node in
+    let all = deciding graph scenario.values c.args.process in
+    let literals = heard_of graph rows scenario node in
     subst
-    (λ n. IsNarrowed g.faults (flat_map (heard_of g rows s n) all) c.args.cube.now c.narrow_by_conditions.new.cube)
+    (λ n. IsNarrowed graph.faults (flat_map (heard_of graph rows scenario n) all) c.args.cube.now
+    c.narrow_by_conditions.new.cube)
     c.node_of-node.ensures.node
-    (narrowed_same g.faults (flat_map f c.args.conditions.now)
-    (flat_map f all) c.args.cube.now c.narrow_by_conditions.new.cube
-    (within_flat_map c.args.conditions.now all c.requires.conditions.each f)
-    (within_flat_map all c.args.conditions.now c.requires.conditions.all f) c.in_ok-narrow_by_conditions.ensures)
+    (narrowed_same graph.faults (flat_map literals c.args.conditions.now)
+    (flat_map literals all) c.args.cube.now c.narrow_by_conditions.new.cube
+    (within_flat_map c.args.conditions.now all c.requires.conditions.each literals)
+    (within_flat_map all c.args.conditions.now c.requires.conditions.all literals) c.in_ok-narrow_by_conditions.ensures)

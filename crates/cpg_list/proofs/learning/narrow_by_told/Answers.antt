@@ -25,13 +25,13 @@ returns-in_default-find c =
 pub returns : goal.returns
 returns c =
     let row = c.args.row.now.columns in
-    let s = c.args.scenario.now in
+    let scenario = c.args.scenario.now in
     let found = c.in-Some-find.ensures in
     let column = c.index-columns-place.result in
     let at : column ≡ get_or row c.in-Some-find.place column =
     c.index-columns-place.is ∙ ap (λ cs. get_or cs c.in-Some-find.place column) c.columns-columns.ensures in
     c.in_ok-narrow.ensures ∙ ap (met c.args.cube.now)
     (c.literals.ensures.literals ∙ ap (λ (x : Column). x.cube) (sym c.index-columns-place.is)
-    ∙ sym (told_found row s c.in-Some.time
+    ∙ sym (told_found row scenario c.in-Some.time
     (c.requires ∙ ap option_to_list c.in-Some.is) c.in-Some-find.place column found.0 at
-    (ap (λ (x : Column). matches x.cube s) at ∙ (found.1 column found.0).1)))
+    (ap (λ (x : Column). matches x.cube scenario) at ∙ (found.1 column found.0).1)))

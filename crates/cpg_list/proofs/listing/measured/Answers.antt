@@ -8,11 +8,11 @@ use Rattle.cpg_list.proofs.listing.measured.Goals as goal
 -- `found_tables_are_built` that is all that a builder promises
 pub returns : goal.returns
 returns c =
-    let g = c.args.admitted.now.graph in
+    let graph = c.args.admitted.now.graph in
     let urgency = c.args.admitted.now.order in
     let order = c.args.order.now in
     -- a builder's answer: the tables, the frozen times, and the scenarios with the greatest finish and excess
-    found_tables_are_built g urgency order c.requires.tables.rows
+    found_tables_are_built graph urgency order c.requires.tables.rows
     (record {
       tables = c.args.tables;
       frozen = c.args.frozen;
@@ -25,7 +25,7 @@ returns c =
     })
     -- the graph is within its limits, and admitted
     c.problem-problem.ensures.admitted.limits
-    (timed_of g urgency order c.args.admitted.now.guards c.args.frozen c.problem-problem.ensures.admitted
+    (timed_of graph urgency order c.args.admitted.now.guards c.args.frozen c.problem-problem.ensures.admitted
     c.requires.topological c.requires.tables.found.frozen_times).admitted
     -- what was found of it: the tables are written from rows, and both figures are the greatest of the runs
     (record {

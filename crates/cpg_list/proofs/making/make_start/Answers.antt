@@ -18,16 +18,17 @@ use Rattle.cpg_list.proofs.making.make_start.Goals as goal
 -- the rows of the items from earlier processes are made, so they have the times of each run; they are read as a slice here
 pub start_entries-requires-clause-told : goal.start_entries-requires-clause-told
 start_entries-requires-clause-told c =
-    let a = c.args.listed.now.admitted.now in
+    let admitted = c.args.listed.now.admitted.now in
     let order = c.args.listed.now.order.now in
     let frozen = c.args.listed.now.frozen.now in
-    let p = c.args.process in
-    let timed = timed_of a.graph a.order order a.guards frozen c.problem-problem.ensures.admitted
+    let process = c.args.process in
+    let timed = timed_of admitted.graph admitted.order order admitted.guards frozen c.problem-problem.ensures.admitted
     c.requires.listed.topological c.requires.listed.frozen in
-    subst (λ (rs : List Row). (s : Scenario) (t : Times) → IsScenario a.graph s → IsRun a.graph order frozen s t →
-    EarlierTell a.graph order (columns_of_rows rs) s t p) (sym c.as_slice.ensures.value)
-    (told_from a.graph a.order order frozen timed
-    (IsBefore a.graph order (place order p)) c.args.rows.now.items c.requires.made p (λ y h. h))
+    subst (λ (rs : List Row). (s : Scenario) (t : Times) → IsScenario admitted.graph s →
+    IsRun admitted.graph order frozen s t →
+    EarlierTell admitted.graph order (columns_of_rows rs) s t process) (sym c.as_slice.ensures.value)
+    (told_from admitted.graph admitted.order order frozen timed
+    (IsBefore admitted.graph order (place order process)) c.args.rows.now.items c.requires.made process (λ y h. h))
 
 -- there is a row for each item, and a process's start is an item
 pub set_row-requires-clause-item : goal.set_row-requires-clause-item
@@ -40,54 +41,60 @@ set_row-requires-clause-item c = omega (
 -- the entries of the start can be merged, as the rows of the items from earlier processes are made
 pub set_row-requires-clause-entries : goal.set_row-requires-clause-entries
 set_row-requires-clause-entries c =
-    let a = c.args.listed.now.admitted.now in
+    let admitted = c.args.listed.now.admitted.now in
     let order = c.args.listed.now.order.now in
     let frozen = c.args.listed.now.frozen.now in
-    let p = c.args.process in
-    let timed = timed_of a.graph a.order order a.guards frozen c.problem-problem.ensures.admitted
+    let process = c.args.process in
+    let timed = timed_of admitted.graph admitted.order order admitted.guards frozen c.problem-problem.ensures.admitted
     c.requires.listed.topological c.requires.listed.frozen in
-    let by = start_by a.graph order c.requires.listed.topological p c.requires.process in
-    mergeable a.graph a.order order frozen timed (IsBefore a.graph order (place order p)) c.args.rows.now.items
-    c.requires.made p (omega (arith, c.requires.process))
+    let by = start_by admitted.graph order c.requires.listed.topological process c.requires.process in
+    mergeable admitted.graph admitted.order order frozen timed
+    (IsBefore admitted.graph order (place order process)) c.args.rows.now.items
+    c.requires.made process (omega (arith, c.requires.process))
     (λ y h. omega (arith, h, by)) c.in_ok-entries.entries.items
-    (subst (λ (rs : List Row). AreEntriesOf a.graph order frozen (columns_of_rows rs) p c.in_ok-entries.entries.items)
+    (subst (λ (rs : List Row). AreEntriesOf admitted.graph order frozen (columns_of_rows rs) process
+    c.in_ok-entries.entries.items)
     c.as_slice.ensures.value c.in_ok-entries.ensures.entries)
 
 -- the rows of items from earlier processes stay
 pub returns-clause-same : goal.returns-clause-same
 returns-clause-same c =
-    let a = c.args.listed.now.admitted.now in
+    let admitted = c.args.listed.now.admitted.now in
     let order = c.args.listed.now.order.now in
     let frozen = c.args.listed.now.frozen.now in
-    let p = c.args.process in
-    let timed = timed_of a.graph a.order order a.guards frozen c.problem-problem.ensures.admitted
+    let process = c.args.process in
+    let timed = timed_of admitted.graph admitted.order order admitted.guards frozen c.problem-problem.ensures.admitted
     c.requires.listed.topological c.requires.listed.frozen in
-    let by = start_by a.graph order c.requires.listed.topological p c.requires.process in
+    let by = start_by admitted.graph order c.requires.listed.topological process c.requires.process in
     let found = subst
-    (λ (rs : List Row). AreEntriesOf a.graph order frozen (columns_of_rows rs) p c.in_ok-entries.entries.items)
+    (λ (rs : List Row). AreEntriesOf admitted.graph order frozen (columns_of_rows rs) process
+    c.in_ok-entries.entries.items)
     c.as_slice.ensures.value c.in_ok-entries.ensures.entries in
-    -- the row that is set is that of p, which is no earlier process
-    same_before a.graph a.order order frozen timed (IsBefore a.graph order (place order p)) c.args.rows.now.items
-    c.requires.made p (omega (arith, c.requires.process))
+    -- the row that is set is that of this process, which is no earlier one
+    same_before admitted.graph admitted.order order frozen timed
+    (IsBefore admitted.graph order (place order process)) c.args.rows.now.items
+    c.requires.made process (omega (arith, c.requires.process))
     (λ y h. omega (arith, h, by)) c.in_ok-entries.entries.items found
     (λ h. omega (arith, h, by)) (λ y h. omega (arith, h, by)) c.set_row.new.rows.items c.in_ok-set_row.ensures
-    (place order p) (omega (arith, by))
+    (place order process) (omega (arith, by))
 
 -- the row of the start is set to its entries, merged, and all other rows stay, so the start has its row too
 pub returns-clause-made : goal.returns-clause-made
 returns-clause-made c =
-    let a = c.args.listed.now.admitted.now in
+    let admitted = c.args.listed.now.admitted.now in
     let order = c.args.listed.now.order.now in
     let frozen = c.args.listed.now.frozen.now in
-    let p = c.args.process in
-    let timed = timed_of a.graph a.order order a.guards frozen c.problem-problem.ensures.admitted
+    let process = c.args.process in
+    let timed = timed_of admitted.graph admitted.order order admitted.guards frozen c.problem-problem.ensures.admitted
     c.requires.listed.topological c.requires.listed.frozen in
-    let by = start_by a.graph order c.requires.listed.topological p c.requires.process in
+    let by = start_by admitted.graph order c.requires.listed.topological process c.requires.process in
     let found = subst
-    (λ (rs : List Row). AreEntriesOf a.graph order frozen (columns_of_rows rs) p c.in_ok-entries.entries.items)
+    (λ (rs : List Row). AreEntriesOf admitted.graph order frozen (columns_of_rows rs) process
+    c.in_ok-entries.entries.items)
     c.as_slice.ensures.value c.in_ok-entries.ensures.entries in
-    one_made a.graph a.order order frozen timed (IsBefore a.graph order (place order p)) c.args.rows.now.items
-    c.requires.made p (omega (arith, c.requires.process))
+    one_made admitted.graph admitted.order order frozen timed
+    (IsBefore admitted.graph order (place order process)) c.args.rows.now.items
+    c.requires.made process (omega (arith, c.requires.process))
     (λ y h. omega (arith, h, by)) c.in_ok-entries.entries.items found
     (λ h. omega (arith, h, by)) (λ y h. omega (arith, h, by)) c.set_row.new.rows.items c.in_ok-set_row.ensures
 
@@ -95,14 +102,14 @@ returns-clause-made c =
 -- right
 pub returns-clause-known : goal.returns-clause-known
 returns-clause-known c =
-    let a = c.args.listed.now.admitted.now in
+    let admitted = c.args.listed.now.admitted.now in
     let order = c.args.listed.now.order.now in
-    let p = c.args.process in
-    let after = before_on_node a.graph order p ++ p ∷ [] in
-    passed_cubes a.graph order c.requires.listed.topological (columns_of_rows c.args.rows.now.items)
-    (columns_of_rows c.set_row.new.rows.items) (place order p) (returns-clause-same c)
-    a.graph.faults c.args.listed.now.scenarios.now c.start_entries.new.known after
-    (own_early a.graph order c.requires.listed.topological p c.requires.process)
-    (subst (λ (rs : List Row). AreCubesOf a.graph.faults c.args.listed.now.scenarios.now
-    (passed_by a.graph (columns_of_rows rs) after) c.start_entries.new.known) c.as_slice.ensures.value
+    let process = c.args.process in
+    let after = before_on_node admitted.graph order process ++ process ∷ [] in
+    passed_cubes admitted.graph order c.requires.listed.topological (columns_of_rows c.args.rows.now.items)
+    (columns_of_rows c.set_row.new.rows.items) (place order process) (returns-clause-same c)
+    admitted.graph.faults c.args.listed.now.scenarios.now c.start_entries.new.known after
+    (own_early admitted.graph order c.requires.listed.topological process c.requires.process)
+    (subst (λ (rs : List Row). AreCubesOf admitted.graph.faults c.args.listed.now.scenarios.now
+    (passed_by admitted.graph (columns_of_rows rs) after) c.start_entries.new.known) c.as_slice.ensures.value
     c.in_ok-entries.ensures.known)

@@ -13,11 +13,11 @@ item-requires c = queue_within c.args.problem.now c.args.process c.args.item c.r
 -- the item is the message of an edge with a `when`, so the condition of its source decides whether it is sent
 pub returns : goal.returns
 returns c =
-    let g = c.args.problem.now in
-    let x = c.args.item in
-    let e = c.in-Message.edge in
-    let at : item_at g x ≡ Message e = sym c.item.ensures.item ∙ c.in-Message.is in
-    let from : source g e ≡ c.args.process =
-    ap (producer_of_item g) (sym at) ∙ queue_by g c.args.process x c.requires.item in
-    let on : is_some (edge_at g e).when ≡ true = search rules in
-    value_of g x e c.args.process at from on c.condition_of.result (sym c.condition_of.ensures)
+    let graph = c.args.problem.now in
+    let item = c.args.item in
+    let edge = c.in-Message.edge in
+    let at : item_at graph item ≡ Message edge = sym c.item.ensures.item ∙ c.in-Message.is in
+    let from : source graph edge ≡ c.args.process =
+    ap (producer_of_item graph) (sym at) ∙ queue_by graph c.args.process item c.requires.item in
+    let on : is_some (edge_at graph edge).when ≡ true = search rules in
+    value_of graph item edge c.args.process at from on c.condition_of.result (sym c.condition_of.ensures)

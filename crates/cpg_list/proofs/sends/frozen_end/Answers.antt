@@ -12,16 +12,20 @@ use Rattle.cpg_list.proofs.sends.frozen_end.Goals as goal
 -- both
 pub returns : goal.returns
 returns c =
-    let g = c.args.admitted.now.graph in
-    let s = c.args.scenario.now in
-    let p = c.args.process in
+    let graph = c.args.admitted.now.graph in
+    let scenario = c.args.scenario.now in
+    let process = c.args.process in
     let by_decided =
-    subst (λ (h : Graph). IsNarrowed h.faults (decided h s p) c.whole-cube.result c.narrow_by_decided.new.cube)
+    subst (λ (h : Graph). IsNarrowed h.faults (decided h scenario process) c.whole-cube.result
+    c.narrow_by_decided.new.cube)
     c.problem-problem.ensures.problem c.in_ok-narrow_by_decided.ensures in
-    let by_count = subst (λ (h : Graph). IsNarrowed h.faults (number_known s p ∷ []) c.narrow_by_decided.new.cube
+    let by_count = subst (λ (h : Graph). IsNarrowed h.faults (number_known scenario process ∷ [])
+    c.narrow_by_decided.new.cube
     c.narrow_to_number.new.cube) c.problem-problem.ensures.problem
     c.in_ok-narrow_to_number.ensures in
-    from_whole g.faults
-    (decided g s p ++ number_known s p ∷ []) c.whole-cube.result c.narrow_to_number.new.cube c.whole-cube.ensures
-    (narrowed_then g.faults (decided g s p) (number_known s p ∷ []) c.whole-cube.result c.narrow_by_decided.new.cube
+    from_whole graph.faults
+    (decided graph scenario process ++ number_known scenario process ∷ []) c.whole-cube.result
+    c.narrow_to_number.new.cube c.whole-cube.ensures
+    (narrowed_then graph.faults (decided graph scenario process) (number_known scenario process ∷ [])
+    c.whole-cube.result c.narrow_by_decided.new.cube
     c.narrow_to_number.new.cube by_decided by_count)

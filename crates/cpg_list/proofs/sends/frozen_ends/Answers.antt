@@ -8,12 +8,12 @@ use Rattle.cpg_list.proofs.sends.frozen_ends.Goals as goal
 -- the cube of the next scenario is added
 pub loop-at-preserved : goal.loop-at-preserved
 loop-at-preserved c =
-    let g = c.args.admitted.now.graph in
+    let graph = c.args.admitted.now.graph in
     record {
       count = ap length c.in_ok-push.ensures.items ∙ length-append c.loop-at.cubes.items (c.in_ok-cube.cube ∷ [])
           ∙ omega (arith, c.loop-at.invariant.count);
-      each = push_cube g.faults c.args.scenarios.now
-          (λ (s : Scenario). decided g s c.args.process ++ number_known s c.args.process ∷ []) c.loop-at.at
+      each = push_cube graph.faults c.args.scenarios.now
+          (λ (s : Scenario). decided graph s c.args.process ++ number_known s c.args.process ∷ []) c.loop-at.at
           c.loop-at.cubes.items c.push.new.self.items
           c.index-scenarios-at.result c.in_ok-cube.cube c.loop-at-test.true c.loop-at.invariant.count
           c.loop-at.invariant.each c.in_ok-push.ensures.items c.index-scenarios-at.is c.in_ok-cube.ensures;

@@ -16,13 +16,16 @@ narrow_by_sent_value-requires-clause-item c = subst (λ (h : Graph). Contains (q
 -- the cube is narrowed by what decides the process, and then by what decides the sending
 pub returns : goal.returns
 returns c =
-    let g = c.args.admitted.now.graph in
-    let s = c.args.scenario.now in
-    let e = c.problem-problem.ensures.problem in
+    let graph = c.args.admitted.now.graph in
+    let scenario = c.args.scenario.now in
+    let same_graph = c.problem-problem.ensures.problem in
     let by_decided = subst
-    (λ (h : Graph). IsNarrowed h.faults (decided h s c.args.process) c.args.cube.now c.narrow_by_decided.new.cube) e
+    (λ (h : Graph). IsNarrowed h.faults (decided h scenario c.args.process) c.args.cube.now
+    c.narrow_by_decided.new.cube) same_graph
     c.in_ok-narrow_by_decided.ensures in
-    let by_value = subst (λ (h : Graph). IsNarrowed h.faults (sent_by_value h s c.args.item) c.narrow_by_decided.new.cube
-    c.narrow_by_sent_value.new.cube) e c.in_ok-narrow_by_sent_value.ensures in
-    narrowed_then g.faults (decided g s c.args.process) (sent_by_value g s c.args.item) c.args.cube.now
+    let by_value = subst (λ (h : Graph). IsNarrowed h.faults (sent_by_value h scenario c.args.item)
+    c.narrow_by_decided.new.cube
+    c.narrow_by_sent_value.new.cube) same_graph c.in_ok-narrow_by_sent_value.ensures in
+    narrowed_then graph.faults (decided graph scenario c.args.process)
+    (sent_by_value graph scenario c.args.item) c.args.cube.now
     c.narrow_by_decided.new.cube c.narrow_by_sent_value.new.cube by_decided by_value

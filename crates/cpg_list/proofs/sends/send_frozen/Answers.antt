@@ -14,31 +14,33 @@ use Rattle.cpg_list.proofs.sends.send_frozen.Goals as goal
 -- more
 pub returns-clause-entry : goal.returns-clause-entry
 returns-clause-entry c queue ends =
-    let g = c.args.admitted.now.graph in
-    let s = c.args.scenario.now in
-    let p = c.args.process in
-    let literals = decided g s p ++ sent_by_value g s c.args.item in
-    let is = from_whole g.faults literals c.whole-cube.result c.narrow_by_sending.new.cube c.whole-cube.ensures
+    let graph = c.args.admitted.now.graph in
+    let scenario = c.args.scenario.now in
+    let process = c.args.process in
+    let literals = decided graph scenario process ++ sent_by_value graph scenario c.args.item in
+    let is = from_whole graph.faults literals c.whole-cube.result c.narrow_by_sending.new.cube c.whole-cube.ensures
     c.in_ok-narrow_by_sending.ensures in
-    subst (λ ls. IsEntryOf g s c.args.time ls c.in_ok-entry.entry)
-    (sym (sends_frozen g s p c.args.item (queue_by g p c.args.item c.requires.item) ends queue c.requires.frozen))
-    (kept_of g s c.args.time literals c.narrow_by_sending.new.cube is c.in_ok-entry.entry
-    (subst (λ (h : Graph). IsEntryWith h s c.args.time c.narrow_by_sending.new.cube c.in_ok-entry.entry)
+    subst (λ ls. IsEntryOf graph scenario c.args.time ls c.in_ok-entry.entry)
+    (sym (sends_frozen graph scenario process c.args.item (queue_by graph process c.args.item c.requires.item) ends
+    queue c.requires.frozen))
+    (kept_of graph scenario c.args.time literals c.narrow_by_sending.new.cube is c.in_ok-entry.entry
+    (subst (λ (h : Graph). IsEntryWith h scenario c.args.time c.narrow_by_sending.new.cube c.in_ok-entry.entry)
     c.problem.ensures.problem c.in_ok-entry.ensures))
 
 -- the cube of the queue is narrowed by the same literals; a frozen message leaves no more
 pub returns-clause-queue : goal.returns-clause-queue
 returns-clause-queue c ends =
-    let g = c.args.admitted.now.graph in
-    let s = c.args.scenario.now in
-    let p = c.args.process in
-    let x = c.args.item in
-    let literals = decided g s p ++ sent_by_value g s x in
-    let by = queue_by g p x c.requires.item in
-    let is = from_whole g.faults literals c.whole-cube.result c.narrow_by_sending.new.cube c.whole-cube.ensures
+    let graph = c.args.admitted.now.graph in
+    let scenario = c.args.scenario.now in
+    let process = c.args.process in
+    let item = c.args.item in
+    let literals = decided graph scenario process ++ sent_by_value graph scenario item in
+    let by = queue_by graph process item c.requires.item in
+    let is = from_whole graph.faults literals c.whole-cube.result c.narrow_by_sending.new.cube c.whole-cube.ensures
     c.in_ok-narrow_by_sending.ensures in
-    let on : active g s.values p ≡ true =
-    ap (active g s.values) (sym by) ∙ producer_active g s.values (item_at g x) c.requires.active in
-    subst (λ ls. IsNarrowed g.faults ls c.args.queue.now c.narrow_by_cube.new.cube)
-    (sym (left_frozen g s p x by ends on c.requires.active c.requires.frozen))
-    (c.in_ok-narrow_by_cube.ensures g.faults literals is)
+    let on : active graph scenario.values process ≡ true =
+    ap (active graph scenario.values) (sym by)
+    ∙ producer_active graph scenario.values (item_at graph item) c.requires.active in
+    subst (λ ls. IsNarrowed graph.faults ls c.args.queue.now c.narrow_by_cube.new.cube)
+    (sym (left_frozen graph scenario process item by ends on c.requires.active c.requires.frozen))
+    (c.in_ok-narrow_by_cube.ensures graph.faults literals is)

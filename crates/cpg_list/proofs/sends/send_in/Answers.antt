@@ -26,41 +26,46 @@ send_plain-requires-clause-item c =
 -- a frozen item: the entry has the item's time of the run
 pub returns-then-is_frozen-clause-entry : goal.returns-then-is_frozen-clause-entry
 returns-then-is_frozen-clause-entry c queue ends is_queue is_end =
-    let g = c.args.admitted.now.graph in
-    let s = c.args.scenario.now in
-    subst (λ o. IsEntryAt g s o (send_after g s c.args.sending.item queue ends) c.in_ok-entry.entry)
+    let graph = c.args.admitted.now.graph in
+    let scenario = c.args.scenario.now in
+    subst (λ o. IsEntryAt graph scenario o
+    (send_after graph scenario c.args.sending.item queue ends) c.in_ok-entry.entry)
     (sym c.in-Some.is ∙ c.time.ensures) (c.in_ok-entry.ensures.entry queue ends)
 
 -- an item that isn't frozen: as it has a time, it and its process are active, so the cube of the end is known; the entry has
 -- the item's time of the run
 pub returns-clause-entry : goal.returns-clause-entry
 returns-clause-entry c queue ends is_queue is_end =
-    let g = c.args.admitted.now.graph in
-    let s = c.args.scenario.now in
-    let x = c.args.sending.item in
-    let p = c.args.sending.process in
-    let acts : item_active g s.values (item_at g x) ≡ true =
+    let graph = c.args.admitted.now.graph in
+    let scenario = c.args.scenario.now in
+    let item = c.args.sending.item in
+    let process = c.args.sending.process in
+    let acts : item_active graph scenario.values (item_at graph item) ≡ true =
     sym c.requires.item_active ∙ ap is_some (sym c.time.ensures ∙ c.in-Some.is) in
-    let on : active g s.values p ≡ true =
-    ap (active g s.values) (sym (queue_by g p x c.requires.item)) ∙ producer_active g s.values (item_at g x) acts in
+    let on : active graph scenario.values process ≡ true =
+    ap (active graph scenario.values) (sym (queue_by graph process item c.requires.item))
+    ∙ producer_active graph scenario.values (item_at graph item) acts in
     let found = subst (λ (h : Graph). IsCubeOf h.faults queue c.args.queue.now → IsCubeOf h.faults ends c.args.end.now →
-    IsEntryOf h s c.in-Some.time (send_after h s x queue ends) c.in_ok-entry-2.entry) c.problem-problem.ensures.problem
+    IsEntryOf h scenario c.in-Some.time (send_after h scenario item queue ends) c.in_ok-entry-2.entry)
+    c.problem-problem.ensures.problem
     (c.in_ok-entry-2.ensures.entry queue ends) in
-    subst (λ o. IsEntryAt g s o (send_after g s x queue ends) c.in_ok-entry-2.entry) (sym c.in-Some.is ∙ c.time.ensures)
+    subst (λ o. IsEntryAt graph scenario o (send_after graph scenario item queue ends) c.in_ok-entry-2.entry)
+    (sym c.in-Some.is ∙ c.time.ensures)
     (found is_queue (is_end.cube on))
 
 -- an item that isn't frozen: as it has a time, it and its process are active, and it leaves what is carried at the end
 pub returns-clause-queue : goal.returns-clause-queue
 returns-clause-queue c ends is_end =
-    let g = c.args.admitted.now.graph in
-    let s = c.args.scenario.now in
-    let x = c.args.sending.item in
-    let p = c.args.sending.process in
-    let acts : item_active g s.values (item_at g x) ≡ true =
+    let graph = c.args.admitted.now.graph in
+    let scenario = c.args.scenario.now in
+    let item = c.args.sending.item in
+    let process = c.args.sending.process in
+    let acts : item_active graph scenario.values (item_at graph item) ≡ true =
     sym c.requires.item_active ∙ ap is_some (sym c.time.ensures ∙ c.in-Some.is) in
-    let on : active g s.values p ≡ true =
-    ap (active g s.values) (sym (queue_by g p x c.requires.item)) ∙ producer_active g s.values (item_at g x) acts in
-    let found = subst (λ (h : Graph). IsCubeOf h.faults ends c.args.end.now → Within (decided h s p) ends →
-    IsNarrowed h.faults (queued_after h s x ends) c.args.queue.now c.send_plain.new.queue)
+    let on : active graph scenario.values process ≡ true =
+    ap (active graph scenario.values) (sym (queue_by graph process item c.requires.item))
+    ∙ producer_active graph scenario.values (item_at graph item) acts in
+    let found = subst (λ (h : Graph). IsCubeOf h.faults ends c.args.end.now → Within (decided h scenario process) ends →
+    IsNarrowed h.faults (queued_after h scenario item ends) c.args.queue.now c.send_plain.new.queue)
     c.problem-problem.ensures.problem (c.in_ok-entry-2.ensures.queue ends) in
     found (is_end.cube on) is_end.decided

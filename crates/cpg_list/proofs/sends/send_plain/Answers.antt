@@ -15,31 +15,34 @@ use Rattle.cpg_list.proofs.sends.send_plain.Goals as goal
 -- is that of all three
 pub returns-clause-entry : goal.returns-clause-entry
 returns-clause-entry c queue ends is_queue is_ends =
-    let g = c.args.problem.now in
-    let s = c.args.scenario.now in
-    let p = c.args.sending.process in
-    let x = c.args.sending.item in
-    let by_end = (c.in_ok-narrow_by_cube.ensures g.faults ends is_ends).by queue is_queue in
+    let graph = c.args.problem.now in
+    let scenario = c.args.scenario.now in
+    let process = c.args.sending.process in
+    let item = c.args.sending.item in
+    let by_end = (c.in_ok-narrow_by_cube.ensures graph.faults ends is_ends).by queue is_queue in
     let by_value = c.in_ok-narrow_by_sent_value.ensures.by (queue ++ ends) by_end in
-    subst (λ ls. IsEntryOf g s c.args.time ls c.in_ok-entry.entry)
-    (sym (sends_plain g s p x (queue_by g p x c.requires.item) ends queue c.requires.plain))
-    (kept_of g s c.args.time (queue ++ ends ++ sent_by_value g s x) c.narrow_by_sent_value.new.cube by_value
+    subst (λ ls. IsEntryOf graph scenario c.args.time ls c.in_ok-entry.entry)
+    (sym (sends_plain graph scenario process item (queue_by graph process item c.requires.item)
+    ends queue c.requires.plain))
+    (kept_of graph scenario c.args.time (queue ++ ends ++ sent_by_value graph scenario item)
+    c.narrow_by_sent_value.new.cube by_value
     c.in_ok-entry.entry c.in_ok-entry.ensures)
 
 -- the queue is narrowed by the producer's end and the value that decides the sending
 pub returns-clause-queue : goal.returns-clause-queue
 returns-clause-queue c ends is_ends within =
-    let g = c.args.problem.now in
-    let s = c.args.scenario.now in
-    let p = c.args.sending.process in
-    let x = c.args.sending.item in
-    let by = queue_by g p x c.requires.item in
-    let on : active g s.values p ≡ true =
-    ap (active g s.values) (sym by) ∙ producer_active g s.values (item_at g x) c.requires.active in
-    subst (λ ls. IsNarrowed g.faults ls c.args.queue.now c.narrow_by_sent_value.new.cube)
-    (sym (left_plain g s p x by ends on c.requires.active c.requires.plain))
-    (end_with_value g.faults (decided g s p)
-    (sent_by_value g s x) ends c.args.queue.now c.narrow_by_sent_value.new.cube within
-    (narrowed_then g.faults ends
-    (sent_by_value g s x) c.args.queue.now c.narrow_by_cube.new.cube c.narrow_by_sent_value.new.cube
-    (c.in_ok-narrow_by_cube.ensures g.faults ends is_ends) c.in_ok-narrow_by_sent_value.ensures))
+    let graph = c.args.problem.now in
+    let scenario = c.args.scenario.now in
+    let process = c.args.sending.process in
+    let item = c.args.sending.item in
+    let by = queue_by graph process item c.requires.item in
+    let on : active graph scenario.values process ≡ true =
+    ap (active graph scenario.values) (sym by)
+    ∙ producer_active graph scenario.values (item_at graph item) c.requires.active in
+    subst (λ ls. IsNarrowed graph.faults ls c.args.queue.now c.narrow_by_sent_value.new.cube)
+    (sym (left_plain graph scenario process item by ends on c.requires.active c.requires.plain))
+    (end_with_value graph.faults (decided graph scenario process)
+    (sent_by_value graph scenario item) ends c.args.queue.now c.narrow_by_sent_value.new.cube within
+    (narrowed_then graph.faults ends
+    (sent_by_value graph scenario item) c.args.queue.now c.narrow_by_cube.new.cube c.narrow_by_sent_value.new.cube
+    (c.in_ok-narrow_by_cube.ensures graph.faults ends is_ends) c.in_ok-narrow_by_sent_value.ensures))

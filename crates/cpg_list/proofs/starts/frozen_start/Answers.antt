@@ -7,9 +7,10 @@ use Rattle.cpg_list.proofs.starts.frozen_start.Goals as goal
 -- the whole cube is narrowed by what decides the process, and nothing else
 pub returns : goal.returns
 returns c =
-    let g = c.args.problem.now in
-    let s = c.args.scenario.now in
-    let literals = decided g s c.args.process in
-    kept_of g s c.args.time literals c.narrow_by_decided.new.cube (from_whole g.faults literals c.whole-cube.result
+    let graph = c.args.problem.now in
+    let scenario = c.args.scenario.now in
+    let literals = decided graph scenario c.args.process in
+    kept_of graph scenario c.args.time literals c.narrow_by_decided.new.cube
+    (from_whole graph.faults literals c.whole-cube.result
     c.narrow_by_decided.new.cube c.whole-cube.ensures c.in_ok-narrow_by_decided.ensures)
     c.in_ok-entry.entry c.in_ok-entry.ensures

@@ -12,9 +12,9 @@ loop-place-init c = record { count = search rules; each = λ i d x h. absurd (om
 -- the column at this place is added with its time and its place
 pub loop-place-preserved : goal.loop-place-preserved
 loop-place-preserved c =
-    let t : TimedColumn = record { time = c.index-columns-place.result.time; place = c.loop-place.place } in
+    let timed : TimedColumn = record { time = c.index-columns-place.result.time; place = c.loop-place.place } in
     one_timed c.args.columns.now c.loop-place.place c.loop-place.by_time.items c.push.new.self.items
-    c.index-columns-place.result t c.loop-place-test.true c.loop-place.invariant
+    c.index-columns-place.result timed c.loop-place-test.true c.loop-place.invariant
     c.index-columns-place.is (search rules) refl refl
 
 -- the times and places of all columns, sorted by time, are the columns in time order

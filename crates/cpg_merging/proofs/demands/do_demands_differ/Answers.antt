@@ -8,7 +8,7 @@ use Rattle.cpg_merging.proofs.demands.do_demands_differ.Goals as goal
 -- the demands are sorted, so they don't fall
 pub do_any_differ-requires : goal.do_any_differ-requires
 do_any_differ-requires c = subst DoNotFall (sym c.as_slice.ensures.value)
-    (λ i j l k. IsNonDecreasingBy-from_sort (λ (n : ℕ). n) _ c.sort_unstable.ensures.sorted i j 0 l k)
+    (λ i j less inside. IsNonDecreasingBy-from_sort (λ (n : ℕ). n) _ c.sort_unstable.ensures.sorted i j 0 less inside)
 
 -- if no two demands of one time differ in the sorted list, none do in the given one, which has the same
 pub returns : goal.returns

@@ -9,13 +9,14 @@ use Rattle.cpg_merging.proofs.marks.mark_each.Goals as goal
 -- the variable of this literal is marked if the column may follow another there, and the marks from before stay
 pub loop-literal-preserved : goal.loop-literal-preserved
 loop-literal-preserved c =
-    let old = c.loop-literal.invariant in
+    let invariant = c.loop-literal.invariant in
     record {
-      kept = λ v on. c.mark_at.ensures.kept v (old.kept v on);
+      kept = λ v on. c.mark_at.ensures.kept v (invariant.kept v on);
       marked = all_more (λ (m : Literal). ¬ IsMarked c.mark_at.new.marks m.variable →
           HasNoPartner c.args.sums.sorted.now c.args.total m) c.args.literals.now c.loop-literal.literal-index _
           (omega arith)
-          (λ m h off. old.marked m h (λ on. off (c.mark_at.ensures.kept m.variable on))) c.mark_at.ensures.marked;
+          (λ m member off. invariant.marked m member (λ on. off (c.mark_at.ensures.kept m.variable on)))
+          c.mark_at.ensures.marked;
     }
 
 -- all literals are gone over, so what holds of those so far holds of all

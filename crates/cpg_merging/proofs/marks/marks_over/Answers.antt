@@ -10,7 +10,8 @@ use Rattle.cpg_merging.proofs.marks.marks_over.Goals as goal
 pub marks_by-requires-clause-sums : goal.marks_by-requires-clause-sums
 marks_by-requires-clause-sums c = record {
   up = subst DoNotFall (sym c.as_slice-3.ensures.value)
-      (λ i j l k. IsNonDecreasingBy-from_sort (λ (n : ℕ). n) _ c.sort_unstable.ensures.sorted i j 0 l k);
+      (λ i j less inside. IsNonDecreasingBy-from_sort
+      (λ (n : ℕ). n) _ c.sort_unstable.ensures.sorted i j 0 less inside);
   some = search rules;
   marked = search rules;
 }

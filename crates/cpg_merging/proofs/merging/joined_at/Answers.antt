@@ -10,20 +10,20 @@ use Rattle.cpg_merging.proofs.merging.joined_at.Goals as goal
 -- the variable is not marked, so no two columns of one time touch at it
 pub returns-then-not-marked-variable-clause-passed : goal.returns-then-not-marked-variable-clause-passed
 returns-then-not-marked-variable-clause-passed c =
-    let g = c.args.problem.now in
-    let v = c.args.variable in
+    let graph = c.args.problem.now in
+    let variable = c.args.variable in
     let columns = c.args.marked.listing.columns.items in
-    passed_settled g v columns c.requires.shorn
-    (c.requires.marked v c.requires.known (λ on. true≢false (sym on ∙ c.if-not-marked-variable.true)))
+    passed_settled graph variable columns c.requires.shorn
+    (c.requires.marked variable c.requires.known (λ on. true≢false (sym on ∙ c.if-not-marked-variable.true)))
 
 -- as many columns as before are left, so they are the same in some order, and the marks still hold
 pub returns-then-len-count-clause-marked : goal.returns-then-len-count-clause-marked
 returns-then-len-count-clause-marked c =
-    let old = c.args.marked.listing.columns in
-    let new = c.in_ok-columns.columns in
-    let m : length old.items ≡ vec_len old = search rules in
-    let n : length new.items ≡ vec_len new = search rules in
+    let before = c.args.marked.listing.columns in
+    let after = c.in_ok-columns.columns in
+    let before_length : length before.items ≡ vec_len before = search rules in
+    let after_length : length after.items ≡ vec_len after = search rules in
     subst (λ (l : Listing). AreMarked c.args.problem.now c.args.marked.marks l.columns.items) (sym c.unsorted.ensures)
-    (marked_permuted c.args.problem.now old.items new.items c.args.marked.marks
-    (permuted_same c.args.problem.now (λ (u : ℕ). u ≡ c.args.variable) old.items new.items c.in_ok-columns.ensures
+    (marked_permuted c.args.problem.now before.items after.items c.args.marked.marks
+    (permuted_same c.args.problem.now (λ (u : ℕ). u ≡ c.args.variable) before.items after.items c.in_ok-columns.ensures
     (omega arith)) c.requires.marked)

@@ -18,9 +18,9 @@ joined_at-requires c = record {
 pub loop-variable-init : goal.loop-variable-init
 loop-variable-init c = record {
   passed = passed_none c.args.problem.now (IsBetween c.args.first c.args.first)
-      (λ v o. omega arith) c.args.marked.listing.columns.items c.requires.shorn;
+      (λ v between. omega arith) c.args.marked.listing.columns.items c.requires.shorn;
   marked = c.requires.marked;
-  sorted = λ t. (t, refl);
+  sorted = λ is_sorted. (is_sorted, refl);
 }
 
 -- the variables below the next one are those gone over so far and this one
@@ -30,7 +30,8 @@ loop-variable-preserved c =
     record {
       passed =
           passed_through c.args.problem.now (IsBetween c.args.first v) (λ u. u ≡ v) (IsBetween c.args.first (v + 1))
-          (λ u h. ⊎_elim (λ (l : u < v). inl (omega arith, l)) (λ (l : v ≤ u). inr (omega arith)) (cases_lt u v))
+          (λ u between. ⊎_elim (λ (below : u < v). inl (omega arith, below)) (λ (from_v : v ≤ u). inr (omega arith))
+          (cases_lt u v))
           c.args.marked.listing.columns.items c.loop-variable.marked.listing.columns.items
           c.in_ok-marked.marked.listing.columns.items c.loop-variable.invariant.passed
           c.in_ok-marked.ensures.passed;
@@ -44,7 +45,8 @@ pub returns : goal.returns
 returns c = record {
   passed = passed_wider c.args.problem.now (IsBetween c.args.first c.loop-variable.variable)
       (IsBetween c.args.first c.args.end)
-      (λ v o. (o.0, omega arith)) c.args.marked.listing.columns.items c.loop-variable.marked.listing.columns.items
+      (λ v between. (between.0, omega arith)) c.args.marked.listing.columns.items
+      c.loop-variable.marked.listing.columns.items
       c.loop-variable.invariant.passed;
   marked = c.loop-variable.invariant.marked;
   sorted = c.loop-variable.invariant.sorted;

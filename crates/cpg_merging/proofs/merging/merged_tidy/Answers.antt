@@ -15,23 +15,23 @@ use Rattle.cpg_merging.proofs.merging.merged_tidy.Goals as goal
 pub settled-requires : goal.settled-requires
 settled-requires c = record { good = c.requires.columns; not_whole = c.requires.tidy }
 
--- if the listing is known to be sorted, it has the columns of before, which were sorted
+-- if the listing is known to be sorted, it has the columns from before, which were sorted
 pub sorted-requires-clause-sorted : goal.sorted-requires-clause-sorted
 sorted-requires-clause-sorted c = OnTrue_from c.in_ok-listing.listing.is_sorted _
     (sorted_still c.args.problem.now c.args.order.now c.args.listing c.in_ok-listing.listing
-    (λ t. OnTrue_at t c.requires.sorted) c.in_ok-listing.ensures.sorted)
+    (λ is_sorted. OnTrue_at is_sorted c.requires.sorted) c.in_ok-listing.ensures.sorted)
 
 -- the columns have no whole literals, so they are joined until they are settled, and then sorted if need be
 pub returns : goal.returns
 returns c =
-    let g = c.args.problem.now in
+    let graph = c.args.problem.now in
     let order = c.args.order.now in
     let given = c.args.listing.columns.items in
     let columns = c.in_ok-listing.listing.columns.items in
-    let settled = subst (λ before. AreSettled g before columns)
-    (sym (tidy_kept g.faults given c.requires.tidy)) c.in_ok-listing.ensures.settled in
+    let settled = subst (λ before. AreSettled graph before columns)
+    (sym (tidy_kept graph.faults given c.requires.tidy)) c.in_ok-listing.ensures.settled in
     if_ok_both c.sorted.result (λ r. IsPermutation columns r.items)
-    (λ r. AreByLows (λ (e : Column). e.cube) g order r.items) (λ r. IsMergeOf g order given r.items)
-    (λ r p up. merge_of g c.processes-processes.ensures.within.few_processes order c.requires.order given columns
-    r.items c.requires.columns settled p up)
+    (λ r. AreByLows (λ (e : Column). e.cube) graph order r.items) (λ r. IsMergeOf graph order given r.items)
+    (λ r permuted up. merge_of graph c.processes-processes.ensures.within.few_processes order c.requires.order given
+    columns r.items c.requires.columns settled permuted up)
     c.sorted.ensures.permutation c.sorted.ensures.by_lows

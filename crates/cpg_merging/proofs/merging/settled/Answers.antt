@@ -13,8 +13,8 @@ loop-marked-init c = record {
   good = search rules;
   joins = search rules;
   marked = c.in_ok-marked.ensures.marks;
-  sorted = λ t. (
-    sym (ap (λ (l : Listing). l.is_sorted) c.in_ok-marked.ensures.listing) ∙ t,
+  sorted = λ is_sorted. (
+    sym (ap (λ (l : Listing). l.is_sorted) c.in_ok-marked.ensures.listing) ∙ is_sorted,
     ap (λ (l : Listing). l.columns.items) c.in_ok-marked.ensures.listing,
   );
 }
@@ -22,28 +22,30 @@ loop-marked-init c = record {
 -- as many columns as before are left, so they are settled
 pub returns-then-len-count-clause-settled : goal.returns-then-len-count-clause-settled
 returns-then-len-count-clause-settled c =
-    let g = c.args.problem.now in
-    let old = c.loop-marked.marked.listing.columns in
-    let new = c.in_ok-marked-2.marked.listing.columns in
-    let m : length old.items ≡ vec_len old = search rules in
-    let n : length new.items ≡ vec_len new = search rules in
+    let graph = c.args.problem.now in
+    let before = c.loop-marked.marked.listing.columns in
+    let after = c.in_ok-marked-2.marked.listing.columns in
+    let before_length : length before.items ≡ vec_len before = search rules in
+    let after_length : length after.items ≡ vec_len after = search rules in
     record {
-      joins = joins_through g c.args.listing.columns.items old.items new.items c.loop-marked.invariant.joins
+      joins = joins_through graph c.args.listing.columns.items before.items after.items c.loop-marked.invariant.joins
           c.in_ok-marked-2.ensures.passed.joins;
       good = c.in_ok-marked-2.ensures.passed.good;
-      settled = settled_same g (IsVariable g) old.items new.items c.in_ok-marked-2.ensures.passed (omega arith);
+      settled = settled_same graph (IsVariable graph) before.items after.items c.in_ok-marked-2.ensures.passed
+          (omega arith);
     }
 
 -- fewer columns than before are left, so the rounds come to an end
 pub loop-marked-smaller : goal.loop-marked-smaller
 loop-marked-smaller c =
-    let g = c.args.problem.now in
-    let old = c.loop-marked.marked.listing.columns in
-    let new = c.in_ok-marked-2.marked.listing.columns in
-    let m : length old.items ≡ vec_len old = search rules in
-    let n : length new.items ≡ vec_len new = search rules in
-    let less : length new.items < length old.items = fewer_else g
-    (IsVariable g) old.items new.items c.in_ok-marked-2.ensures.passed (λ e. c.if-len-count.false (omega arith)) in
+    let graph = c.args.problem.now in
+    let before = c.loop-marked.marked.listing.columns in
+    let after = c.in_ok-marked-2.marked.listing.columns in
+    let before_length : length before.items ≡ vec_len before = search rules in
+    let after_length : length after.items ≡ vec_len after = search rules in
+    let less : length after.items < length before.items = fewer_else graph
+    (IsVariable graph) before.items after.items c.in_ok-marked-2.ensures.passed
+    (λ equal. c.if-len-count.false (omega arith)) in
     omega arith
 
 -- the columns of this round are a join of those before it, so also of those given, and the round left marks that still

@@ -9,10 +9,10 @@ use Rattle.cpg_merging.proofs.totals.has_partner.Goals as goal
 -- this low gives no partner, and the lower ones gave none
 pub loop-low-preserved : goal.loop-low-preserved
 loop-low-preserved c low less there = elim (cases_eq low c.loop-low.low) [
-  | inr n ↦ c.loop-low.invariant low (omega (arith, less, n)) there
-  | inl e ↦ from_off c.is_there.result c.if-is_there.false c.is_there.ensures
+  | inr other ↦ c.loop-low.invariant low (omega (arith, less, other)) there
+  | inl same_low ↦ from_off c.is_there.result c.if-is_there.false c.is_there.ensures
       (subst (λ (m : ℕ). Contains c.args.sums.sorted.now ((c.rest_of-rest.result + m) % 2 ^ 64))
-      (ap (λ (w : ℕ). hash_of (ended c.args.literal w)) e ∙ sym c.hash_of-in-loop-low.ensures) there)
+      (ap (λ (w : ℕ). hash_of (ended c.args.literal w)) same_low ∙ sym c.hash_of-in-loop-low.ensures) there)
 ]
 
 -- the loop has gone over all lows under the literal's own, and none gave a partner

@@ -9,18 +9,18 @@ use Rattle.cpg_node.proofs.heard.arrives.Goals as goal
 pub returns-in-Some : goal.returns-in-Some
 returns-in-Some c =
     let columns = c.heard_columns.result.now in
-    let i = c.args.frame.now.column in
-    let found : slice_get columns i ≡ Some c.in-Some.entry.now =
-    slice_get-get_or columns i c.in-Some.entry.now c.in-Some.ensures.lookup.3.0
+    let column = c.args.frame.now.column in
+    let found : slice_get columns column ≡ Some c.in-Some.entry.now =
+    slice_get-get_or columns column c.in-Some.entry.now c.in-Some.ensures.lookup.3.0
     ∙ ap Some (sym c.in-Some.ensures.lookup.1) in
     arrives_at c.args.table.now c.args.arrival c.args.frame.now c.in-Some.entry.now
-    (ap (λ cs. slice_get cs i) (sym c.heard_columns.ensures) ∙ found)
+    (ap (λ cs. slice_get cs column) (sym c.heard_columns.ensures) ∙ found)
 
 -- there is no such hear row, or it has no such column, so the frame doesn't arrive
 pub returns-in-None : goal.returns-in-None
 returns-in-None c =
     let columns = c.heard_columns.result.now in
-    let i = c.args.frame.now.column in
-    let past : length columns ≤ i = search rules in
+    let column = c.args.frame.now.column in
+    let past : length columns ≤ column = search rules in
     arrives_nowhere c.args.table.now c.args.arrival c.args.frame.now
-    (ap (λ cs. slice_get cs i) (sym c.heard_columns.ensures) ∙ slice_get_past columns i past)
+    (ap (λ cs. slice_get cs column) (sym c.heard_columns.ensures) ∙ slice_get_past columns column past)

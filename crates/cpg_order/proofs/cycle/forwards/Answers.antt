@@ -11,17 +11,17 @@ use Rattle.cpg_order.proofs.cycle.forwards.Goals.{then-place-eq0, else-place-eq0
 -- otherwise to the place before it.
 next_place : (m n k at : ℕ) → m < n → k < n → at ≡ place_down m n k →
     (at ≡ 0 → n - 1 ≡ place_down m n (k + 1)) × ((at ≡ 0 → ⊥) → at - 1 ≡ place_down m n (k + 1))
-next_place m n k at h l is = elim (down_next m n k h l) [
+next_place m n k at m_inside k_inside is = elim (down_next m n k m_inside k_inside) [
   -- the place is 0: the next one is the last
-  | inl (a, b) ↦ (λ z. sym b, λ z. absurd (z (is ∙ a)))
+  | inl (is_first, next_last) ↦ (λ not_first. sym next_last, λ not_first. absurd (not_first (is ∙ is_first)))
   -- it isn't 0: the next one is that before it
-  | inr (a, b) ↦ (λ z. absurd (omega arith), λ z. omega arith)
+  | inr (not_first, next_down) ↦ (λ at_first. absurd (omega arith), λ at_first. omega arith)
 ]
 
 -- the next place is one further down, or the last one if this is the first
 pub loop-preserved : goal.loop-preserved
 loop-preserved c =
-    let n = next_place c.least_place-place.result (length c.args.back.now) c.loop.counter c.loop.place
+    let next = next_place c.least_place-place.result (length c.args.back.now) c.loop.counter c.loop.place
     c.least_place-place.ensures.within c.loop-test.true c.loop.invariant.place in
     -- one place more is walked; the place then is one further down, or the last
     record {
@@ -33,9 +33,9 @@ loop-preserved c =
           c.in_ok-push.ensures.items;
       place = elim c.if-place-eq0.branch [
         -- at place 0: on to the last place
-        | then-place-eq0 w ↦ w.place-is ∙ n.0 w.if-place-eq0.true
+        | then-place-eq0 w ↦ w.place-is ∙ next.0 w.if-place-eq0.true
         -- elsewhere: on to the place before
-        | else-place-eq0 w ↦ w.place-is ∙ n.1 w.if-place-eq0.false
+        | else-place-eq0 w ↦ w.place-is ∙ next.1 w.if-place-eq0.false
       ];
       within = elim c.if-place-eq0.branch [
         -- the last place is one of the list

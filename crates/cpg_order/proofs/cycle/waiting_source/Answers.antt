@@ -31,13 +31,13 @@ returns-then-waiting-source-gt0-clause-edge c =
 pub unreachable-requires : goal.unreachable-requires
 unreachable-requires c =
     -- an input whose source waits, and its place among the inputs
-    let r = c.requires.stuck.each c.args.process c.requires.within c.requires.waits in
+    let found = c.requires.stuck.each c.args.process c.requires.within c.requires.waits in
     let is = c.inputs-edge-items.ensures.of_graph c.args.problem.now c.requires.links in
-    let k = r.1.0 in
-    let l : k < c.loop-edge.edge-index = omega (arith, r.1.1, ap length is) in
-    let at : get_or (inputs c.args.problem.now c.args.process) k 0 ≡ r.0 =
-    get_or_default (inputs c.args.problem.now c.args.process) k 0 r.0 r.1.1 ∙ r.1.2 in
+    let position = found.1.0 in
+    let passed : position < c.loop-edge.edge-index = omega (arith, found.1.1, ap length is) in
+    let at : get_or (inputs c.args.problem.now c.args.process) position 0 ≡ found.0 =
+    get_or_default (inputs c.args.problem.now c.args.process) position 0 found.0 found.1.1 ∙ found.1.2 in
     -- the loop has passed this input, so its source would not wait, but it does
-    let none = c.loop-edge.invariant k l in
-    let some = r.2 in
+    let none = c.loop-edge.invariant position passed in
+    let some = found.2 in
     omega (arith, ap (λ e. get_or c.args.waiting.now (source c.args.problem.now e) 0) at)

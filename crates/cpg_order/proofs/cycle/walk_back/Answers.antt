@@ -19,16 +19,17 @@ returns-in-Some-clause-cycle c =
     let found : position (λ p. p == c.loop-from.process) c.loop-from.walk.items ≡ Some c.in-Some.from =
     ap (position (λ p. p == c.loop-from.process)) (sym c.as_slice.ensures.value) ∙
     sym c.in-Some.ensures in
-    let r = position-Some (λ p. p == c.loop-from.process) c.loop-from.walk.items c.in-Some.from 0 found in
+    let parts = position-Some (λ p. p == c.loop-from.process) c.loop-from.walk.items c.in-Some.from 0 found in
     walk_meets c.args.problem.now c.loop-from.walk.items c.loop-from.process c.loop-from.invariant.walk c.in-Some.from
-    r.0 (eqb-true _ _ r.1)
+    parts.0 (eqb-true _ _ parts.1)
 
 -- if a search for p in the walk finds no place, p isn't in the walk
 not_found : (walk : List ℕ) (p : ℕ) (found : Option ℕ) → found ≡ position (λ q. q == p) walk →
     ((from : ℕ) → found ≡ Some from → ⊥) →
     is_in walk p ≡ false
 not_found walk p found is none =
-    false_from_ne_true (is_in walk p) (λ t. none (place walk p) (is ∙ position-place walk p (from_is_in walk p t)))
+    false_from_ne_true (is_in walk p)
+    (λ found_in. none (place walk p) (is ∙ position-place walk p (from_is_in walk p found_in)))
 
 -- the process is not in the walk yet, so the walk is shorter than there are processes and what `decreases` counts falls
 pub loop-from-smaller : goal.loop-from-smaller
@@ -37,7 +38,7 @@ loop-from-smaller c =
     let fresh = not_found c.loop-from.walk.items c.loop-from.process c.place_in.result
     (c.place_in.ensures ∙ ap (position (λ p. p == c.loop-from.process)) c.as_slice.ensures.value)
     c.in_default.not-Some in
-    let l = length-lt_below (process_count c.args.problem.now) c.loop-from.process c.loop-from.walk.items
+    let shorter = length-lt_below (process_count c.args.problem.now) c.loop-from.process c.loop-from.walk.items
     c.loop-from.invariant.walk.apart c.loop-from.invariant.walk.below
     c.loop-from.invariant.within fresh in
     omega (arith, ap length c.in_ok-push.ensures.items, length-append c.loop-from.walk.items (c.loop-from.process ∷ []))

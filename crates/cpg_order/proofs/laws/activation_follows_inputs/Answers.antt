@@ -6,4 +6,4 @@ use Rattle.cpg_order.proofs.laws.activation_follows_inputs.Goals as goal
 
 -- looking back one edge further finds the same, since an order leaves no way longer than there are processes
 pub returns : goal.returns
-returns c g order topological values p l = activation_is g order topological values p (omega arith)
+returns c g order topological values p inside = activation_is g order topological values p (omega arith)

@@ -4,4 +4,4 @@ use Rattle.cpg_order.proofs.laws.has_one_urgency_order.Goals as goal
 
 -- sorting by tails gives one, and of two processes it is fixed which is more urgent, so there is no other
 pub returns : goal.returns
-returns c g = (urgency_exists g, λ a b h k. one_urgency_order g a b h k)
+returns c g = (urgency_exists g, λ a b a_is b_is. one_urgency_order g a b a_is b_is)

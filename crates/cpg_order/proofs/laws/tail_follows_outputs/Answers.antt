@@ -5,4 +5,4 @@ use Rattle.cpg_order.proofs.laws.tail_follows_outputs.Goals as goal
 
 -- looking ahead one edge further finds the same, since an order leaves no way longer than there are processes
 pub returns : goal.returns
-returns c g order topological p l = tail_is g order topological p l
+returns c g order topological p inside = tail_is g order topological p inside

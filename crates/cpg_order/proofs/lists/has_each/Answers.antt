@@ -11,7 +11,7 @@ loop-number-init c = seen_none c.args.list.now c.in_ok-seen.seen.items (search r
 -- a number that is too great shows that the list doesn't have each number once
 pub returns-then-place-list : goal.returns-then-place-list
 returns-then-place-list c = (
-  λ t. absurd (true≢false (sym t)),
+  λ holds. absurd (true≢false (sym holds)),
   λ all. absurd (not_great c.args.list.now c.loop-number.seen.items c.loop-number.number-index c.loop-number.invariant
       c.loop-number-test.true c.if-place-list.true all),
 )
@@ -24,7 +24,7 @@ returns-then-index c =
     let old = sym (get_or_default c.loop-number.seen.items (get_or c.args.list.now c.loop-number.number-index 0)
     c.index.result.now false (omega (arith, c.loop-number.invariant.long))) ∙
     sym c.index.ensures ∙ c.if-index.true in (
-      λ t. absurd (true≢false (sym t)),
+      λ holds. absurd (true≢false (sym holds)),
       λ all. absurd (not_twice c.args.list.now c.loop-number.seen.items c.loop-number.number-index
           c.loop-number.invariant c.loop-number-test.true small old all),
     )
@@ -43,8 +43,8 @@ loop-number-preserved c =
 -- all numbers of the list were seen, so it has each number once
 pub returns : goal.returns
 returns c =
-    let e : c.loop-number.number-index ≡ length c.args.list.now = omega arith in (
-      λ t. all_seen c.args.list.now c.loop-number.seen.items
-          (subst (AreSeen c.args.list.now c.loop-number.seen.items) e c.loop-number.invariant),
+    let all_read : c.loop-number.number-index ≡ length c.args.list.now = omega arith in (
+      λ holds. all_seen c.args.list.now c.loop-number.seen.items
+          (subst (AreSeen c.args.list.now c.loop-number.seen.items) all_read c.loop-number.invariant),
       λ all. refl,
     )

@@ -17,8 +17,8 @@ target-requires c = c.requires.edges (get_or c.args.edges.now c.loop-edge.edge-i
 next_waits : (edges waiting : List ℕ) (f : ℕ → ℕ) (i t : ℕ) (old : ℕ) → i < length edges → t ≡ f (get_or edges i 0) →
     passing (λ e. f e == t) edges ≤ old →
     get_or waiting t 0 + passing (λ e. f e == t) (take i edges) ≡ old → 0 < get_or waiting t 0
-next_waits edges waiting f i t old l at enough left =
-    let n = passing_next (λ e. f e == t) edges i l (eq-eqb (f (get_or edges i 0)) t (sym at)) in
+next_waits edges waiting f i t old inside at enough left =
+    let counted = passing_next (λ e. f e == t) edges i inside (eq-eqb (f (get_or edges i 0)) t (sym at)) in
     omega arith
 
 -- the target of an edge that isn't counted yet still waits for it

@@ -23,38 +23,38 @@ loop-settled-init c =
     let count : ℕ → ℕ = λ p. length (inputs c.args.problem.now p) in
     settled_first c.args.problem.now c.in_ok-waiting.waiting.items c.in_ok-ready.ready.items
     (ap length c.in_ok-waiting.ensures.counts ∙ length-map-range_with_len count 0 (process_count c.args.problem.now))
-    (λ p l. ap (λ xs. get_or xs p 0) c.in_ok-waiting.ensures.counts
-    ∙ get_or-map-below count (process_count c.args.problem.now) p 0 l)
+    (λ p inside. ap (λ xs. get_or xs p 0) c.in_ok-waiting.ensures.counts
+    ∙ get_or-map-below count (process_count c.args.problem.now) p 0 inside)
     (subst (λ xs. AreReady xs c.in_ok-ready.ready.items) c.as_slice.ensures.value c.in_ok-ready.ensures)
 
 -- the next ready process is one of the graph, so the links have its outputs
 pub outputs-requires : goal.outputs-requires
 outputs-requires c =
-    let l : c.loop-settled.settled < length c.loop-settled.ready.items = omega arith in
+    let more : c.loop-settled.settled < length c.loop-settled.ready.items = omega arith in
     let at = c.index-process.ensures
-    ∙ get_or_default c.loop-settled.ready.items c.loop-settled.settled c.index-process.result.now 0 l in
-    let w = ready_within c.args.problem.now c.loop-settled.waiting.items c.loop-settled.ready.items
-    c.loop-settled.settled c.loop-settled.settled c.loop-settled.invariant l in
+    ∙ get_or_default c.loop-settled.ready.items c.loop-settled.settled c.index-process.result.now 0 more in
+    let inside = ready_within c.args.problem.now c.loop-settled.waiting.items c.loop-settled.ready.items
+    c.loop-settled.settled c.loop-settled.settled c.loop-settled.invariant more in
     subst (λ k. c.index-process.result.now < k.count) (sym c.requires) (omega arith)
 
 -- an output of a process is an edge of the graph
 pub release_all-requires-clause-edges : goal.release_all-requires-clause-edges
-release_all-requires-clause-edges c e k =
+release_all-requires-clause-edges c e is_output =
     (outputs_parts c.args.problem.now c.index-process.result.now e
-    (subst (λ xs. Contains xs e) (c.outputs.ensures.of_graph c.args.problem.now c.requires) k)).0
+    (subst (λ xs. Contains xs e) (c.outputs.ensures.of_graph c.args.problem.now c.requires) is_output)).0
 
 -- the next process isn't settled yet, so each of its targets still waits for the inputs from it
 pub release_all-requires-clause-wait : goal.release_all-requires-clause-wait
 release_all-requires-clause-wait c p =
-    let l : c.loop-settled.settled < length c.loop-settled.ready.items = omega arith in
+    let more : c.loop-settled.settled < length c.loop-settled.ready.items = omega arith in
     let at = c.index-process.ensures
-    ∙ get_or_default c.loop-settled.ready.items c.loop-settled.settled c.index-process.result.now 0 l in
+    ∙ get_or_default c.loop-settled.ready.items c.loop-settled.settled c.index-process.result.now 0 more in
     rw (c.outputs.ensures.of_graph c.args.problem.now c.requires)
     (subst (λ q. passing (λ e. target c.args.problem.now e == p) (outputs c.args.problem.now q)
     ≤ get_or c.loop-settled.waiting.items p 0) (sym at)
     (enough c.args.problem.now c.loop-settled.waiting.items c.loop-settled.settled c.loop-settled.ready.items
-    c.loop-settled.invariant l
-    (λ e k. (c.in_ok-waiting.ensures.within.edges e _ k).to) p))
+    c.loop-settled.invariant more
+    (λ e inside. (c.in_ok-waiting.ensures.within.edges e _ inside).to) p))
 
 -- one more process is settled, and there are no more of them than processes
 pub loop-settled-smaller : goal.loop-settled-smaller
@@ -66,11 +66,11 @@ loop-settled-smaller c =
 -- one more process is settled
 pub loop-settled-preserved : goal.loop-settled-preserved
 loop-settled-preserved c =
-    let l : c.loop-settled.settled < length c.loop-settled.ready.items = omega arith in
+    let more : c.loop-settled.settled < length c.loop-settled.ready.items = omega arith in
     let at = c.index-process.ensures
-    ∙ get_or_default c.loop-settled.ready.items c.loop-settled.settled c.index-process.result.now 0 l in
+    ∙ get_or_default c.loop-settled.ready.items c.loop-settled.settled c.index-process.result.now 0 more in
     settled_more c.args.problem.now c.loop-settled.waiting.items c.loop-settled.settled c.loop-settled.ready.items
-    c.loop-settled.invariant l
+    c.loop-settled.invariant more
     c.release_all.new.waiting.items c.release_all.new.ready.items c.in_ok-release_all.ensures.longer.0
     c.in_ok-release_all.ensures.longer.1 c.in_ok-release_all.ensures.long
     c.in_ok-release_all.ensures.ready

@@ -18,7 +18,8 @@ loop-done-init c =
     none_found c.args.problem.now c.processes-count.ensures.within c.args.order.now c.requires.order
     c.in_ok-tails.tails.items
     (ap length zeros ∙ length-replicate (length c.processes-count.result.now) 0 ∙ count)
-    (λ p l. ap (λ xs. get_or xs p 0) zeros ∙ get_or-replicate (length c.processes-count.result.now) p 0 0 (omega arith))
+    (λ p inside. ap (λ xs. get_or xs p 0) zeros
+    ∙ get_or-replicate (length c.processes-count.result.now) p 0 0 (omega arith))
 
 -- the order is as long as there are processes, so it has a process at the place that is asked for
 pub at-process-requires : goal.at-process-requires
@@ -36,9 +37,9 @@ outputs-requires c =
 
 -- an output of a process is an edge of the graph
 pub longest-way-requires-clause-outputs : goal.longest-way-requires-clause-outputs
-longest-way-requires-clause-outputs c e k =
+longest-way-requires-clause-outputs c e is_output =
     (outputs_parts c.args.problem.now c.at-process.result e
-    (subst (λ xs. Contains xs e) (c.outputs.ensures.of_graph c.args.problem.now c.requires.links) k)).0
+    (subst (λ xs. Contains xs e) (c.outputs.ensures.of_graph c.args.problem.now c.requires.links) is_output)).0
 
 -- a round is at most 16 slots of at most 10^9
 pub longest-way-requires-clause-round : goal.longest-way-requires-clause-round
@@ -106,5 +107,5 @@ returns c =
     let count = ap length c.processes-count.ensures.processes in
     all_found c.args.problem.now c.processes-count.ensures.within c.args.order.now c.requires.order
     c.loop-done.tails.items
-    (let e : c.loop-done.done ≡ process_count c.args.problem.now = omega arith in
-    subst (AreFound c.args.problem.now c.args.order.now c.loop-done.tails.items) e c.loop-done.invariant)
+    (let all_done : c.loop-done.done ≡ process_count c.args.problem.now = omega arith in
+    subst (AreFound c.args.problem.now c.args.order.now c.loop-done.tails.items) all_done c.loop-done.invariant)

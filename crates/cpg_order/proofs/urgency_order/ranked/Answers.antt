@@ -11,4 +11,4 @@ returns c = subst (AreRanked c.args.tails.now)
     (ranked_from_sorted c.args.tails.now c.sort_unstable.new.self.items
     (subst (λ xs. IsPermutation xs c.sort_unstable.new.self.items) c.in_ok-ranks.ensures
     c.sort_unstable.ensures.permutation)
-    (λ k d l. in_order _ _ _ _ (c.sort_unstable.ensures.sorted k d (omega arith) l)))
+    (λ k d next_inside. in_order _ _ _ _ (c.sort_unstable.ensures.sorted k d (omega arith) next_inside)))

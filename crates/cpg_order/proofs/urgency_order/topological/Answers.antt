@@ -10,7 +10,7 @@ pub cycle-requires-clause-stuck : goal.cycle-requires-clause-stuck
 cycle-requires-clause-stuck c = rw c.as_slice.ensures.value
     (settled_stuck c.args.problem.now c.in_ok-settled.settled.waiting.items c.in_ok-settled.settled.ready.items
     c.in_ok-settled.ensures
-    (λ e l. (c.processes-count.ensures.within.edges e _ l).from)
+    (λ e inside. (c.processes-count.ensures.within.edges e _ inside).from)
     (omega (arith, ap length c.processes-count.ensures.processes)))
 
 -- all processes are settled, each once, so the list has an order of all of them
@@ -24,5 +24,5 @@ pub returns-clause-order : goal.returns-clause-order
 returns-clause-order c = subst (IsTopological c.args.problem.now) (sym c.in_ok-new.ensures)
     (settled_topological c.args.problem.now c.in_ok-settled.settled.waiting.items c.in_ok-settled.settled.ready.items
     c.in_ok-settled.ensures
-    (λ e l. (c.processes-count.ensures.within.edges e _ l).to)
+    (λ e inside. (c.processes-count.ensures.within.edges e _ inside).to)
     (omega (arith, ap length c.processes-count.ensures.processes)))

@@ -10,7 +10,7 @@ use Rattle.cpg_outputs.proofs.living.follow.Goals as goal
 -- followed to its close
 pub returns-in-Ok-clause-keeps : goal.returns-in-Ok-clause-keeps
 returns-in-Ok-clause-keeps g c =
-    let s = c.in-Ok.ensures.whole in
+    let whole = c.in-Ok.ensures.whole in
     record {
       names = c.follow.ensures.names;
       fetched = c.follow.ensures.fetched;
@@ -19,29 +19,29 @@ returns-in-Ok-clause-keeps g c =
           λ fetch past is failed. absurd (closed_sound c.args.follower.now.head c.args.follower.now.table
           c.args.stream.now (g.S.Shelf.state c.args.shelf.now).history
           (g.S.Shelf.state c.follow.new.shelf).history (g.O.Sink.state c.args.out.now).taken
-          (g.O.Sink.state c.args.out.now) (g.O.Sink.state c.follow.new.out) s fetch past is failed);
+          (g.O.Sink.state c.args.out.now) (g.O.Sink.state c.follow.new.out) whole fetch past is failed);
     }
 
 -- there is one fetch more, that of the stream, which is followed to its close; `err` is untouched
 pub returns-in-Ok-clause-followed : goal.returns-in-Ok-clause-followed
 returns-in-Ok-clause-followed g c =
-    let s = c.in-Ok.ensures.whole in
+    let whole = c.in-Ok.ensures.whole in
     record {
-      fetch = s.fetch;
-      named = s.named;
-      history = s.history_is;
-      ends = inl (s.is, refl, record { faultless = refl; taken = refl });
+      fetch = whole.fetch;
+      named = whole.named;
+      history = whole.history_is;
+      ends = inl (whole.is, refl, record { faultless = refl; taken = refl });
     }
 
 -- there is one fetch more, that of the stream, and `end_broken` wrote why it isn't followed to its close
 pub returns-in-Err-clause-followed : goal.returns-in-Err-clause-followed
 returns-in-Err-clause-followed g c =
-    let s = c.in-Err.ensures.broken in
+    let broken = c.in-Err.ensures.broken in
     record {
-      fetch = s.fetch;
-      named = s.named;
-      history = s.history_is;
-      ends = inr (c.in-Err.broken, s.is, c.end_broken.ensures);
+      fetch = broken.fetch;
+      named = broken.named;
+      history = broken.history_is;
+      ends = inr (c.in-Err.broken, broken.is, c.end_broken.ensures);
     }
 
 -- what stands under names is unchanged, and if the fetch of the stream failed, it was the shelf that broke off, so its count

@@ -16,7 +16,7 @@ follow_rest-requires g c = omega (arith, ap (λ (f : Follower). f.read) c.requir
 -- close
 pub returns-in-Ok-clause-whole : goal.returns-in-Ok-clause-whole
 returns-in-Ok-clause-whole g c =
-    let f = c.args.follower.now in
+    let follower = c.args.follower.now in
     let name = c.args.name.now in
     let past = (g.S.Shelf.state c.args.shelf.now).history in
     let now = (g.O.Sink.state c.args.out.now).taken in
@@ -24,12 +24,12 @@ returns-in-Ok-clause-whole g c =
     -- what `follow_rest` answers of a stream that the follower is along
     on_match_ok _ _ c.follow_rest.result (c.follow_rest.ensures.along now name past
     (subst (IsAlong name past history now now) (sym c.requires.opened)
-    (along_open name past history now f.head f.table c.in-Ok.ensures.history)))
+    (along_open name past history now follower.head follower.table c.in-Ok.ensures.history)))
 
 -- an opened follower is along with a fetch that gave nothing yet, so `follow_rest` says where and why the stream broke off
 pub returns-in-Ok-clause-broken : goal.returns-in-Ok-clause-broken
 returns-in-Ok-clause-broken g c =
-    let f = c.args.follower.now in
+    let follower = c.args.follower.now in
     let name = c.args.name.now in
     let past = (g.S.Shelf.state c.args.shelf.now).history in
     let now = (g.O.Sink.state c.args.out.now).taken in
@@ -37,20 +37,20 @@ returns-in-Ok-clause-broken g c =
     -- what `follow_rest` answers of a stream that the follower is along
     on_match_err _ _ c.follow_rest.result (c.follow_rest.ensures.along now name past
     (subst (IsAlong name past history now now) (sym c.requires.opened)
-    (along_open name past history now f.head f.table c.in-Ok.ensures.history)))
+    (along_open name past history now follower.head follower.table c.in-Ok.ensures.history)))
 
 -- the fetch of the stream failed, so nothing was followed
 pub returns-in-Err-clause-broken : goal.returns-in-Err-clause-broken
 returns-in-Err-clause-broken g c =
-    let f = c.args.follower.now in
+    let follower = c.args.follower.now in
     unfetched c.args.name.now (g.S.Shelf.state c.args.shelf.now).history (g.S.Shelf.state c.fetch.new.self).history
-    f.head f.table (g.O.Sink.state c.args.out.now) c.in-Err.ensures.history
+    follower.head follower.table (g.O.Sink.state c.args.out.now) c.in-Err.ensures.history
 
 -- there is one fetch more, that of the stream, and what is left is the rest of what stands under its name, so it gave a
 -- prefix of that
 pub returns-in-Ok-clause-fetched : goal.returns-in-Ok-clause-fetched
 returns-in-Ok-clause-fetched g c =
-    let f = c.args.follower.now in
+    let follower = c.args.follower.now in
     let name = c.args.name.now in
     let old = g.S.Shelf.state c.args.shelf.now in
     let mid = g.S.Shelf.state c.fetch.new.self in
@@ -58,9 +58,10 @@ returns-in-Ok-clause-fetched g c =
     let out = g.O.Sink.state c.args.out.now in
     -- the follower is along the stream from its first byte
     let start = subst (IsAlong name old.history mid.history out.taken out.taken) (sym c.requires.opened)
-    (along_open name old.history mid.history out.taken f.head f.table c.in-Ok.ensures.history) in
+    (along_open name old.history mid.history out.taken follower.head follower.table c.in-Ok.ensures.history) in
     -- one fetch is added, that of the stream
-    let one = fetch_of (Completes f.head f.table) (λ broken s. Breaks f.head f.table s broken) name old.history
+    let one = fetch_of (Completes follower.head follower.table)
+    (λ broken s. Breaks follower.head follower.table s broken) name old.history
     new.history out.taken out (g.O.Sink.state c.follow_rest.new.out) c.follow_rest.result
     (c.follow_rest.ensures.along out.taken name old.history start) in
     -- the names stay as they are

@@ -10,7 +10,7 @@ use Rattle.cpg_reach.proofs.counting.conditions_along.Goals.{in-Some+in_ok-push,
 pub condition_of-requires : goal.condition_of-requires
 condition_of-requires c =
     let same = c.processes-process-items.ensures.processes in
-    let w = process_within c.args.order.now c.processes-process-items.ensures.order c.loop-process.process-index
+    let within = process_within c.args.order.now c.processes-process-items.ensures.order c.loop-process.process-index
     (omega (arith, ap length same)) in
     rw same (omega arith)
 

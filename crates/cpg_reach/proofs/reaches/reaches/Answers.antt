@@ -13,8 +13,8 @@ loop-process-init c =
     let at = ap (λ g. item_count g) c.problem-problem.ensures.problem in
     walk_starts c.args.admitted.now.graph c.args.order.now c.requires _ _ c.in_ok-empty_sets.field-0.items
     c.in_ok-empty_sets-2.field-0.items c.in_ok-empty_sets-3.field-0.items
-    (let e = c.conditions.ensures.count in
-    omega arith) (let n = ap (λ g. length g.nodes) c.problem-problem.ensures.problem in
+    (let count_is = c.conditions.ensures.count in
+    omega arith) (let nodes_are = ap (λ g. length g.nodes) c.problem-problem.ensures.problem in
     omega (arith, ap length c.nodes-nodes.ensures.nodes))
     c.in_ok-empty_sets.ensures c.in_ok-empty_sets-2.ensures c.in_ok-empty_sets-3.ensures
 
@@ -23,7 +23,7 @@ pub settle_process-requires-clause-process : goal.settle_process-requires-clause
 settle_process-requires-clause-process c =
     let same = c.processes-process-items.ensures.processes in
     let long = length_order (process_count c.args.admitted.now.graph) c.args.order.now c.requires.all in
-    let w = process_within c.args.order.now c.processes-process-items.ensures.order c.loop-process.process-index
+    let within = process_within c.args.order.now c.processes-process-items.ensures.order c.loop-process.process-index
     (omega (arith, ap length same)) in
     omega (
       arith,

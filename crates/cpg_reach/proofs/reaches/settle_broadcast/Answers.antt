@@ -34,12 +34,13 @@ broadcast_of-reach-requires-clause-nodes c = ap length c.as_slice-2.ensures.valu
 -- the item's number is below the count of items, since the condition is one of the graph
 pub settle-requires-clause-item : goal.settle-requires-clause-item
 settle-requires-clause-item c =
-    let w = walked_some c.args.problem.now c.args.order.now c.requires.order (place c.args.order.now c.args.process + 1)
+    let counts = walked_some c.args.problem.now c.args.order.now c.requires.order
+    (place c.args.order.now c.args.process + 1)
     (place c.args.order.now c.args.process * phases c.args.problem.now + 2) c.args.walk.now.reaches.items
     c.args.walk.now.known.items c.args.walk.now.sent.items c.requires.walked in
     omega (
       arith,
-      w.0,
+      counts.0,
       ap length c.processes.ensures.processes,
       ap length c.edges.ensures.edges,
       condition_of_below c.args.problem.now c.args.process c.in-Some.condition (sym c.in-Some.ensures),
@@ -48,10 +49,11 @@ settle-requires-clause-item c =
 -- the walk has a set for each node
 pub settle-requires-clause-node : goal.settle-requires-clause-node
 settle-requires-clause-node c =
-    let w = walked_some c.args.problem.now c.args.order.now c.requires.order (place c.args.order.now c.args.process + 1)
+    let counts = walked_some c.args.problem.now c.args.order.now c.requires.order
+    (place c.args.order.now c.args.process + 1)
     (place c.args.order.now c.args.process * phases c.args.problem.now + 2) c.args.walk.now.reaches.items
     c.args.walk.now.known.items c.args.walk.now.sent.items c.requires.walked in
-    omega (arith, w.2, c.node_of.ensures.within)
+    omega (arith, counts.2, c.node_of.ensures.within)
 
 -- the broadcast's reach is set as its item's and added to what its node has sent, so all is right up to the first
 -- message

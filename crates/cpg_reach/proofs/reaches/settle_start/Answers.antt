@@ -26,10 +26,11 @@ start_of-reach-requires-clause-nodes c = ap length c.as_slice-2.ensures.value
 -- the walk has a set for each node
 pub index-requires : goal.index-requires
 index-requires c =
-    let w = walked_some c.args.problem.now c.args.order.now c.requires.order (place c.args.order.now c.args.process)
+    let counts = walked_some c.args.problem.now c.args.order.now c.requires.order
+    (place c.args.order.now c.args.process)
     (place c.args.order.now c.args.process * phases c.args.problem.now) c.args.walk.now.reaches.items
     c.args.walk.now.known.items c.args.walk.now.sent.items c.requires.walked in
-    omega (arith, w.1, c.node_of-node.ensures.within)
+    omega (arith, counts.1, c.node_of-node.ensures.within)
 
 -- the walk has a reach for each item
 pub add_heard-requires-clause-items : goal.add_heard-requires-clause-items
@@ -41,24 +42,27 @@ add_heard-requires-clause-items c = ap length c.as_slice-3.ensures.value
 -- the walk has a set for each node
 pub index_mut-requires : goal.index_mut-requires
 index_mut-requires c =
-    let w = walked_some c.args.problem.now c.args.order.now c.requires.order (place c.args.order.now c.args.process)
+    let counts = walked_some c.args.problem.now c.args.order.now c.requires.order
+    (place c.args.order.now c.args.process)
     (place c.args.order.now c.args.process * phases c.args.problem.now) c.args.walk.now.reaches.items
     c.args.walk.now.known.items c.args.walk.now.sent.items c.requires.walked in
-    omega (arith, w.1, c.node_of-node.ensures.within)
+    omega (arith, counts.1, c.node_of-node.ensures.within)
 
 -- the walk has a reach for each item
 pub index_mut-requires-2 : goal.index_mut-requires-2
 index_mut-requires-2 c =
-    let w = walked_some c.args.problem.now c.args.order.now c.requires.order (place c.args.order.now c.args.process)
+    let counts = walked_some c.args.problem.now c.args.order.now c.requires.order
+    (place c.args.order.now c.args.process)
     (place c.args.order.now c.args.process * phases c.args.problem.now) c.args.walk.now.reaches.items
     c.args.walk.now.known.items c.args.walk.now.sent.items c.requires.walked in
-    omega (arith, w.0, c.requires.process)
+    omega (arith, counts.0, c.requires.process)
 
 -- the start's reach is set, and its node's set gets what the process makes later ones wait for, so all is right up to
 -- the broadcast
 pub returns : goal.returns
 returns c =
-    let w = walked_some c.args.problem.now c.args.order.now c.requires.order (place c.args.order.now c.args.process)
+    let counts = walked_some c.args.problem.now c.args.order.now c.requires.order
+    (place c.args.order.now c.args.process)
     (place c.args.order.now c.args.process * phases c.args.problem.now) c.args.walk.now.reaches.items
     c.args.walk.now.known.items c.args.walk.now.sent.items c.requires.walked in
     start_settled c.args.problem.now c.args.order.now c.requires.order c.args.process c.requires.process
@@ -69,7 +73,7 @@ returns c =
     c.start_of-reach.result c.copy-known.result c.add_heard.new.reach c.add.new.self c.insert.new.self
     c.start_of-reach.ensures
     (c.copy-known.ensures ∙ set_at c.args.walk.now.known.items c.node_of-node.result c.index.result.now
-    (omega (arith, w.1, c.node_of-node.ensures.within)) c.index.ensures)
+    (omega (arith, counts.1, c.node_of-node.ensures.within)) c.index.ensures)
     c.add_heard.ensures c.add.ensures c.insert.ensures
 
 -- a graph has at most 128 processes, so the number of a process is a variable

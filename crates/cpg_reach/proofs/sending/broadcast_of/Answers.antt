@@ -10,7 +10,8 @@ use Rattle.cpg_reach.proofs.sending.broadcast_of.Goals as goal
 pub returns-then-nodes-le1 : goal.returns-then-nodes-le1
 returns-then-nodes-le1 c = nothing_sent c.args.problem.now c.args.reaches.now c.args.sent.now c.none.result
     (send_by c.args.problem.now c.args.reaches.now c.args.sent.now (Broadcast c.args.condition)) c.none.ensures
-    (one_node c.args.problem.now c.args.reaches.now c.args.sent.now c.args.condition (let l = c.if-nodes-le1.true in
+    (one_node c.args.problem.now c.args.reaches.now c.args.sent.now c.args.condition
+    (let few_nodes = c.if-nodes-le1.true in
     omega (arith, ap length c.nodes.ensures.nodes)))
 
 -- the process of the condition is one of the graph
@@ -39,5 +40,5 @@ after_end-requires-clause-variable c =
 pub returns : goal.returns
 returns c = broadcast_sent c.args.problem.now c.args.reaches.now c.args.sent.now c.args.condition
     c.process_of-process.result c.node_of-node.result c.after_end.result
-    (let l = c.if-nodes-le1.false in omega (arith, ap length c.nodes.ensures.nodes))
+    (let few_nodes = c.if-nodes-le1.false in omega (arith, ap length c.nodes.ensures.nodes))
     c.process_of-process.ensures.process c.node_of-node.ensures.node c.after_end.ensures

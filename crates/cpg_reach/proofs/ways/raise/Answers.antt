@@ -9,7 +9,7 @@ loop-counts-init c = raised_first c.args.faults c.args.table.now c.requires.ways
 
 -- the sum of two neighbours is a number of ways for one fault more, which `sum_fits` bounds
 pub overflow_add-table : goal.overflow_add-table
-overflow_add-table c = let b = sum_fits c.args.faults c.loop-counts.table c.loop-counts.counts c.requires.few
+overflow_add-table c = let fits = sum_fits c.args.faults c.loop-counts.table c.loop-counts.counts c.requires.few
     (omega arith) (omega arith) c.loop-counts.invariant in
     omega arith
 

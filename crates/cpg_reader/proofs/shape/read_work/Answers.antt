@@ -9,10 +9,10 @@ use Rattle.cpg_reader.proofs.shape.read_work.Goals as goal
 pub returns-in_err-only : goal.returns-in_err-only
 unfolding read_work
 returns-in_err-only c =
-    let p = err_from_is_err_and c.from_residual-in_err-only.result c.from_residual-in_err-only.ensures.1 in
+    let failed = err_from_is_err_and c.from_residual-in_err-only.result c.from_residual-in_err-only.ensures.1 in
     rw (
-      p.1,
-      p.2,
+      failed.1,
+      failed.2,
       c.in_ok-wcet.ensures,
       c.in_ok-parts.ensures,
       c.in_ok-alpha.ensures,

@@ -9,11 +9,11 @@ use Rattle.cpg_reader.proofs.shape.rows.Goals as goal
 -- this element is refused, so the list is
 pub returns-in_err-read : goal.returns-in_err-read
 returns-in_err-read g c =
-    let p = err_from_is_err_and c.from_residual-in_err-read.result c.from_residual-in_err-read.ensures.1 in
+    let failed = err_from_is_err_and c.from_residual-in_err-read.result c.from_residual-in_err-read.ensures.1 in
     let fused = each-map (λ t. table_view t.now)
     (λ i (ms : Members). g.T.Element.reads (record { table = c.args.table; index = i; members = ms })) 0
     c.args.elements.now in
-    rw (p.1, p.2) (refused _ c.args.elements.now c.loop-index.index c.index-elements-index.result
+    rw (failed.1, failed.2) (refused _ c.args.elements.now c.loop-index.index c.index-elements-index.result
     c.loop-index.rows.items c.in_err-read.field-0.0 _ c.loop-index-test.true c.index-elements-index.is
     c.in_err-read.ensures (c.loop-index.invariant ∙ sym fused))
 

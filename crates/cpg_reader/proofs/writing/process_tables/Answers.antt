@@ -11,16 +11,16 @@ use Rattle.cpg_reader.proofs.writing.process_tables.Goals as goal
 -- the table of one more process is made
 pub loop-process-preserved : goal.loop-process-preserved
 loop-process-preserved c =
-    let xs = c.processes-process-items.result.now in
-    let i = c.loop-process.process-index in
+    let processes = c.processes-process-items.result.now in
+    let place = c.loop-process.process-index in
     record {
-      made = made_more xs i c.process-item.result c.loop-process-test.true c.process-item.is
+      made = made_more processes place c.process-item.result c.loop-process-test.true c.process-item.is
           (λ (p : Process). table (process_members c.args.problem.now.nodes p)) (map view c.loop-process.made.items)
           (map view c.push.new.elements.items) c.loop-process.invariant.made
           (c.in_ok-push.ensures
           ∙ ap (λ t. map view c.loop-process.made.items ++ table t ∷ []) c.in_ok-process_table.ensures.table ∙
           ap (λ ns. map view c.loop-process.made.items ++ table (process_members ns c.process-item.result) ∷ [])
           c.nodes.ensures.nodes);
-      named = all_more xs i c.process-item.result c.loop-process-test.true c.process-item.is
+      named = all_more processes place c.process-item.result c.loop-process-test.true c.process-item.is
           (λ (p : Process). IsName p.name) c.loop-process.invariant.named c.in_ok-process_table.ensures.named;
     }

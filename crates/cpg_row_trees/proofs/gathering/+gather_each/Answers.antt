@@ -55,7 +55,7 @@ returns-else-not-all_above-clause-found g t c n are =
     -- what the top shows: the trees of both sides (0, 1), and that the lists are theirs (2, 3) and their fork's (4)
     let shows = c.in-Cut.ensures.shows in
     let space : Space = c.args.space.now in
-    let v = c.in-Cut.variable in
+    let variable = c.in-Cut.variable in
     let cut = c.in-Cut.cut in
     -- the space below the cut, the one above it, and the space as it is opened again
     let under : Space = c.close_above-old_high.new.self in
@@ -65,16 +65,18 @@ returns-else-not-all_above-clause-found g t c n are =
     let all = c.gather_each-in-Cut-2.new.found.items in
     -- the side below leaves its space as it was, so that what is opened again is the given space
     let same : c.gather_each-in-Cut.new.space ≡ under = OnTrue_at c.if-not-all_below.false c.in_ok-all_below-in-Cut.ensures.same in
-    let back : again ≡ space = above_again space under c.gather_each-in-Cut.new.space again v same
+    let back : again ≡ space = above_again space under c.gather_each-in-Cut.new.space again variable same
     c.close_above-old_high.result c.reopen_above.ensures c.close_above-old_high.ensures.back in
-    let goes_over = goes_again space again over v cut back c.close_below-old_low.ensures.lies in
+    let goes_over = goes_again space again over variable cut back c.close_below-old_low.ensures.lies in
     -- the places of both sides pass, and those of the side below are still among all
     let low = OnTrue_at c.if-not-all_below.false c.in_ok-all_below-in-Cut.ensures.found shows.0 shows.2 in
     let high = OnTrue_at c.if-not-all_above.false c.in_ok-all_above-in-Cut.ensures.found shows.1 shows.3 in
-    holds_fork (λ (x : Option ℕ) (s : Scenario). g.J.Test.guarantees c.args.test.now x s × IsAmong all x) space v cut
-    shows.0 shows.1 n (flat-same n (Fork v cut shows.0 shows.1) (sym are ∙ shows.4))
-    (λ s lies h. let r = low s (c.close_above-old_high.ensures.lies s lies h) in
-    (r.0, among_more some all c.in_ok-all_above-in-Cut.ensures.kept _ r.1)) (λ s lies h. high s (goes_over s lies h))
+    holds_fork (λ (x : Option ℕ) (s : Scenario). g.J.Test.guarantees c.args.test.now x s ×
+    IsAmong all x) space variable cut
+    shows.0 shows.1 n (flat-same n (Fork variable cut shows.0 shows.1) (sym are ∙ shows.4))
+    (λ s lies at_most. let among = low s (c.close_above-old_high.ensures.lies s lies at_most) in
+    (among.0, among_more some all c.in_ok-all_above-in-Cut.ensures.kept _ among.1))
+    (λ s lies above. high s (goes_over s lies above))
 
 -- the places of both sides are added to those found before
 pub returns-else-not-all_above-clause-kept : goal.returns-else-not-all_above-clause-kept
@@ -87,12 +89,12 @@ close_below-old_low-requires g t c =
     let space : Space = c.args.space.now in
     let under : Space = c.close_above-old_high.new.self in
     let again : Space = c.reopen_above.new.self in
-    let v = c.in-Cut.variable in
+    let variable = c.in-Cut.variable in
     let same : c.gather_each-in-Cut.new.space ≡ under =
     OnTrue_at c.if-not-all_below.false c.in_ok-all_below-in-Cut.ensures.same in
-    let back : again ≡ space = above_again space under c.gather_each-in-Cut.new.space again v same
+    let back : again ≡ space = above_again space under c.gather_each-in-Cut.new.space again variable same
     c.close_above-old_high.result c.reopen_above.ensures c.close_above-old_high.ensures.back in
-    let is_open = open_again space again v c.in-Cut.cut back (record {
+    let is_open = open_again space again variable c.in-Cut.cut back (record {
       below = sym c.is_open_below.ensures.is ∙ c.if-not-is_open_below.false;
       above = sym c.is_open_above.ensures.is ∙ c.if-not-is_open_above.false;
     }) in
@@ -102,7 +104,7 @@ close_below-old_low-requires g t c =
 pub returns-else-not-all_above-clause-same : goal.returns-else-not-all_above-clause-same
 returns-else-not-all_above-clause-same g t c =
     let space : Space = c.args.space.now in
-    let v = c.in-Cut.variable in
+    let variable = c.in-Cut.variable in
     let under : Space = c.close_above-old_high.new.self in
     let over : Space = c.close_below-old_low.new.self in
     let again : Space = c.reopen_above.new.self in
@@ -110,7 +112,7 @@ returns-else-not-all_above-clause-same g t c =
     OnTrue_at c.if-not-all_below.false c.in_ok-all_below-in-Cut.ensures.same in
     let same_over : c.gather_each-in-Cut-2.new.space ≡ over =
     OnTrue_at c.if-not-all_above.false c.in_ok-all_above-in-Cut.ensures.same in
-    below_again again over c.gather_each-in-Cut-2.new.space c.reopen_below.new.self v same_over
+    below_again again over c.gather_each-in-Cut-2.new.space c.reopen_below.new.self variable same_over
     c.close_below-old_low.result c.reopen_below.ensures c.close_below-old_low.ensures.back
-    ∙ above_again space under c.gather_each-in-Cut.new.space again v same_under c.close_above-old_high.result
+    ∙ above_again space under c.gather_each-in-Cut.new.space again variable same_under c.close_above-old_high.result
     c.reopen_above.ensures c.close_above-old_high.ensures.back

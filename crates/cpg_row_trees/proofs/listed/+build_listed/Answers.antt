@@ -24,13 +24,13 @@ pub build_listed_fork-build_listed-requires : goal.build_listed_fork-build_liste
 build_listed_fork-build_listed-requires t c =
     let space : Space = c.args.space.now in
     let under : Space = c.close_above-old_high.new.self in
-    let v = c.args.part.cut.variable in
+    let variable = c.args.part.cut.variable in
     let cut = c.args.part.cut.most in (
       omega (arith, c.decreases),
       (
-        ranges_under c.args.k space under v cut (search rules) c.requires.ranges c.requires.open
+        ranges_under c.args.k space under variable cut (search rules) c.requires.ranges c.requires.open
             c.see_lists-is_seen.ensures.highs c.close_above-old_high.ensures.is c.close_above-old_high.ensures.lies,
-        on_under c.args.k space under v cut
+        on_under c.args.k space under variable cut
             (search rules) c.requires.ranges c.requires.open c.see_lists-is_seen.ensures.highs
             c.close_above-old_high.ensures.is c.close_above-old_high.ensures.lies _ c.requires.own,
       ),
@@ -42,12 +42,13 @@ build_listed_fork-close_below-old_low-requires t c =
     let space : Space = c.args.space.now in
     let under : Space = c.close_above-old_high.new.self in
     let again : Space = c.reopen_above.new.self in
-    let v = c.args.part.cut.variable in
+    let variable = c.args.part.cut.variable in
     let same : c.build_listed.new.space ≡ under = at_some (λ to. c.build_listed.new.space ≡ under) c.in_ok-below.below
     c.in-Some.border c.in-Some.is c.in_ok-below.ensures.same in
-    let back : again ≡ space = above_again space under c.build_listed.new.space again v same c.close_above-old_high.result
+    let back : again ≡ space = above_again space under c.build_listed.new.space again variable same
+    c.close_above-old_high.result
     c.reopen_above.ensures c.close_above-old_high.ensures.back in
-    let is_open = open_again space again v c.args.part.cut.most back c.requires.open in
+    let is_open = open_again space again variable c.args.part.cut.most back c.requires.open in
     record { below = is_open.below; above = is_open.above }
 
 -- so they do for the space above the cut, once that below is put back
@@ -55,7 +56,7 @@ pub build_listed_fork-build_listed_above-requires : goal.build_listed_fork-build
 build_listed_fork-build_listed_above-requires t c =
     let cubes : List (List Literal) = map (λ (b : Bor (List Literal)). b.now) c.args.cubes.now in
     let space : Space = c.args.space.now in
-    let v = c.args.part.cut.variable in
+    let variable = c.args.part.cut.variable in
     let cut = c.args.part.cut.most in
     -- the space below the cut, the one above it, and the space as it is opened again
     let under : Space = c.close_above-old_high.new.self in
@@ -67,16 +68,17 @@ build_listed_fork-build_listed_above-requires t c =
     let low =
     at_some (λ to. AddsSliceTree cubes c.args.k under c.args.place to c.args.growth.now c.build_listed.new.growth)
     c.in_ok-below.below c.in-Some.border c.in-Some.is c.in_ok-below.ensures.added in
-    let back : again ≡ space = above_again space under c.build_listed.new.space again v same c.close_above-old_high.result
+    let back : again ≡ space = above_again space under c.build_listed.new.space again variable same
+    c.close_above-old_high.result
     c.reopen_above.ensures c.close_above-old_high.ensures.back in
-    let is_over = over_again space again over v cut back c.close_below-old_low.ensures.is in
-    let goes_over = goes_again space again over v cut back c.close_below-old_low.ensures.lies in (
+    let is_over = over_again space again over variable cut back c.close_below-old_low.ensures.is in
+    let goes_over = goes_again space again over variable cut back c.close_below-old_low.ensures.lies in (
       -- fewer items are left, and the space above is known by its ranges and by its literals
       omega (arith, c.decreases, low.fewer),
       (
-        ranges_over c.args.k space over v cut
+        ranges_over c.args.k space over variable cut
             (search rules) c.requires.ranges c.requires.open c.see_lists-is_seen.ensures.lows is_over goes_over,
-        on_over c.args.k space over v cut (search rules) c.requires.ranges c.requires.open
+        on_over c.args.k space over variable cut (search rules) c.requires.ranges c.requires.open
             c.see_lists-is_seen.ensures.lows is_over goes_over _ c.requires.own,
       ),
     )
@@ -104,7 +106,7 @@ pub build_listed_fork-returns : goal.build_listed_fork-returns
 build_listed_fork-returns t c =
     let cubes : List (List Literal) = map (λ (b : Bor (List Literal)). b.now) c.args.cubes.now in
     let space : Space = c.args.space.now in
-    let v = c.args.part.cut.variable in
+    let variable = c.args.part.cut.variable in
     let cut = c.args.part.cut.most in
     let under : Space = c.close_above-old_high.new.self in
     let over : Space = c.close_below-old_low.new.self in
@@ -116,10 +118,11 @@ build_listed_fork-returns t c =
     let low =
     at_some (λ to. AddsSliceTree cubes c.args.k under c.args.place to c.args.growth.now c.build_listed.new.growth)
     c.in_ok-below.below c.in-Some.border c.in-Some.is c.in_ok-below.ensures.added in
-    let back : again ≡ space = above_again space under c.build_listed.new.space again v same c.close_above-old_high.result
+    let back : again ≡ space = above_again space under c.build_listed.new.space again variable same
+    c.close_above-old_high.result
     c.reopen_above.ensures c.close_above-old_high.ensures.back in
-    let is_over = over_again space again over v cut back c.close_below-old_low.ensures.is in
-    let goes_over = goes_again space again over v cut back c.close_below-old_low.ensures.lies in
+    let is_over = over_again space again over variable cut back c.close_below-old_low.ensures.is in
+    let goes_over = goes_again space again over variable cut back c.close_below-old_low.ensures.lies in
     -- the side above has added its tree, behind that of the side below
     let new : TreeGrowth = record { items = c.plain_fork.new.out; left = c.build_listed_above.new.growth.left } in
     let same_over : c.build_listed_above.new.space ≡ over = at_some (λ to. c.build_listed_above.new.space ≡ over)
@@ -130,7 +133,8 @@ build_listed_fork-returns t c =
     c.in_ok-above.ensures.added in
     -- the tree is made of those of the sides, and the space is as before
     record {
-      added = listed_parted cubes c.args.k space under over c.args.place c.in-Some.border c.in-Some-above.to v cut
+      added = listed_parted cubes c.args.k space under over c.args.place c.in-Some.border
+          c.in-Some-above.to variable cut
           (search rules) c.see_lists-is_seen.ensures.lows c.see_lists-is_seen.ensures.highs
           c.requires.ranges c.requires.open c.close_above-old_high.ensures.is is_over
           c.close_above-old_high.ensures.lies goes_over
@@ -138,7 +142,7 @@ build_listed_fork-returns t c =
           c.build_listed_above.new.growth new c.in_ok-plain_fork.ensures.made refl
           (c.len-start.ensures ∙ c.args.growth.now.items.ok.0)
           (c.len-middle.ensures ∙ c.build_listed.new.growth.items.ok.0) low high;
-      same = below_again again over c.build_listed_above.new.space c.reopen_below.new.self v same_over
+      same = below_again again over c.build_listed_above.new.space c.reopen_below.new.self variable same_over
           c.close_below-old_low.result c.reopen_below.ensures c.close_below-old_low.ensures.back ∙ back;
     }
 

@@ -32,13 +32,13 @@ build_forked_places-close_below-old_low-requires t c =
     let space : Space = c.args.space.now in
     let under : Space = c.close_above-old_high.new.self in
     let again : Space = c.reopen_above.new.self in
-    let v = c.args.cut.variable in
+    let variable = c.args.cut.variable in
     let same : c.build_place_tree.new.space ≡ under =
     OnTrue_at c.if-not-has_below.false c.in_ok-has_below.ensures.same in
-    let back : again ≡ space = above_again space under c.build_place_tree.new.space again v same
+    let back : again ≡ space = above_again space under c.build_place_tree.new.space again variable same
     c.close_above-old_high.result c.reopen_above.ensures
     (c.close_above-old_high.ensures.back ∙ c.in_ok-sides.ensures.same) in
-    let is_open = open_again space again v c.args.cut.most back c.requires in
+    let is_open = open_again space again variable c.args.cut.most back c.requires in
     record { below = is_open.below; above = is_open.above }
 
 -- each side has added its tree behind what was there
@@ -64,7 +64,7 @@ pub build_forked_places-returns : goal.build_forked_places-returns
 build_forked_places-returns t c =
     let space : Space = c.args.space.now in
     let kept : c.parted.new.space ≡ space = c.in_ok-sides.ensures.same in
-    let v = c.args.cut.variable in
+    let variable = c.args.cut.variable in
     let cut = c.args.cut.most in
     -- the space below the cut, the one above it, and the space as it is opened again
     let under : Space = c.close_above-old_high.new.self in
@@ -73,9 +73,9 @@ build_forked_places-returns t c =
     -- the side below leaves its space as it was, so that what is opened again is the given space
     let same : c.build_place_tree.new.space ≡ under =
     OnTrue_at c.if-not-has_below.false c.in_ok-has_below.ensures.same in
-    let back : again ≡ space = above_again space under c.build_place_tree.new.space again v same
+    let back : again ≡ space = above_again space under c.build_place_tree.new.space again variable same
     c.close_above-old_high.result c.reopen_above.ensures (c.close_above-old_high.ensures.back ∙ kept) in
-    let goes_over = goes_again space again over v cut back c.close_below-old_low.ensures.lies in
+    let goes_over = goes_again space again over variable cut back c.close_below-old_low.ensures.lies in
     -- the places that are kept for the sides: those of all that some scenario there may match
     let cubes : List (List Literal) = map (λ (b : Bor (List Literal)). b.now) c.args.cubes.now in
     let low = places_of c.in_ok-sides.sides.low.items in
@@ -85,16 +85,16 @@ build_forked_places-returns t c =
     let new : TreeGrowth = record { items = c.plain_fork.new.out; left = c.build_place_tree-2.new.growth.left } in
     let same_over : c.build_place_tree-2.new.space ≡ over =
     OnTrue_at c.if-not-has_above.false c.in_ok-has_above.ensures.same in
-    let keeps_below : KeepsWhere cubes (λ s. number_of s v ≤ cut) all low =
+    let keeps_below : KeepsWhere cubes (λ s. number_of s variable ≤ cut) all low =
     subst (λ (x : PlaceCut). KeepsWhere cubes (λ s. number_of s x.variable ≤ x.most) all low) c.span_of-span.ensures
     (rw c.as_slice.ensures.value at c.in_ok-sides.ensures.low) in
-    let keeps_above : KeepsWhere cubes (λ s. IsInSpace space s × (cut < number_of s v)) all high =
+    let keeps_above : KeepsWhere cubes (λ s. IsInSpace space s × (cut < number_of s variable)) all high =
     subst (λ (x : PlaceCut). KeepsWhere cubes (λ s. IsInSpace space s × (x.most < number_of s x.variable)) all high)
     c.span_of-span.ensures
     (rw c.as_slice.ensures.value at c.in_ok-sides.ensures.high) in
     -- the tree is made of those of the sides, and the space is opened again after the second
     record {
-      added = place_tree_parted cubes space under over all low high v cut c.len-start.result c.len-middle.result
+      added = place_tree_parted cubes space under over all low high variable cut c.len-start.result c.len-middle.result
           c.args.growth.now rest c.build_place_tree.new.growth
           c.build_place_tree-2.new.growth new
           c.in_ok-plain_fork.ensures.made refl c.left_after-growth.ensures refl
@@ -104,7 +104,7 @@ build_forked_places-returns t c =
           (OnTrue_at c.if-not-has_above.false c.in_ok-has_above.ensures.added)
           (λ s lies. c.close_above-old_high.ensures.lies s (subst (λ (r : Space). IsInSpace r s) (sym kept) lies))
           goes_over;
-      same = below_again again over c.build_place_tree-2.new.space c.reopen_below.new.self v same_over
+      same = below_again again over c.build_place_tree-2.new.space c.reopen_below.new.self variable same_over
           c.close_below-old_low.result c.reopen_below.ensures c.close_below-old_low.ensures.back ∙ back;
     }
 

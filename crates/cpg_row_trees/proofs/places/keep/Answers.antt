@@ -17,10 +17,11 @@ returns-clause-low c =
     -- the cube that was looked up is the one at its place in the list
     let look = c.in-Some.ensures.lookup in
     let at = cube_here c.args.cubes.now c.args.hint.place c.in-Some.cube.now look.3.0 look.1 in
-    let v = c.args.span.cut.variable in
-    kept_for (λ s. (number_of s v ≤ c.args.span.cut.most) × (c.variable_range-range.result.low ≤ number_of s v))
+    let variable = c.args.span.cut.variable in
+    kept_for (λ s. (number_of s variable ≤ c.args.span.cut.most) ×
+    (c.variable_range-range.result.low ≤ number_of s variable))
     c.args.hint.place
-    (λ s. (number_of s v ≤ c.args.span.cut.most) × IsMatched cubes s c.args.hint.place) c.args.low.now.items
+    (λ s. (number_of s variable ≤ c.args.span.cut.most) × IsMatched cubes s c.args.hint.place) c.args.low.now.items
     c.keep_below.new.low.items
     (λ s h. (
       h.0,
@@ -36,10 +37,11 @@ returns-clause-high c =
     -- the cube that was looked up is the one at its place in the list
     let look = c.in-Some.ensures.lookup in
     let at = cube_here c.args.cubes.now c.args.hint.place c.in-Some.cube.now look.3.0 look.1 in
-    let v = c.args.span.cut.variable in
-    kept_for (λ s. (IsInSpace c.args.space.now s × (c.args.span.cut.most < number_of s v)) ×
+    let variable = c.args.span.cut.variable in
+    kept_for (λ s. (IsInSpace c.args.space.now s × (c.args.span.cut.most < number_of s variable)) ×
     (matches c.literals-literals.result.now s ≡ true)) c.args.hint.place
-    (λ s. (IsInSpace c.args.space.now s × (c.args.span.cut.most < number_of s v)) × IsMatched cubes s c.args.hint.place)
+    (λ s. (IsInSpace c.args.space.now s × (c.args.span.cut.most < number_of s variable)) ×
+    IsMatched cubes s c.args.hint.place)
     c.args.high.now.items c.keep_above.new.high.items
     (λ s h. (
       h.0,
@@ -52,8 +54,9 @@ returns-clause-high c =
 pub returns-in_default-clause-low : goal.returns-in_default-clause-low
 returns-in_default-clause-low c =
     let cubes : List (List Literal) = map (λ (b : Bor (List Literal)). b.now) c.args.cubes.now in
-    let v = c.args.span.cut.variable in
-    kept_out (λ s. (number_of s v ≤ c.args.span.cut.most) × IsMatched cubes s c.args.hint.place) c.args.hint.place
+    let variable = c.args.span.cut.variable in
+    kept_out (λ s. (number_of s variable ≤ c.args.span.cut.most) ×
+    IsMatched cubes s c.args.hint.place) c.args.hint.place
     c.args.low.now.items
     (λ s h. past_none c.args.cubes.now c.args.hint.place s c.in_default.ensures.lookup.0 h.1)
 
@@ -61,8 +64,8 @@ returns-in_default-clause-low c =
 pub returns-in_default-clause-high : goal.returns-in_default-clause-high
 returns-in_default-clause-high c =
     let cubes : List (List Literal) = map (λ (b : Bor (List Literal)). b.now) c.args.cubes.now in
-    let v = c.args.span.cut.variable in
-    kept_out (λ s. (IsInSpace c.args.space.now s × (c.args.span.cut.most < number_of s v)) ×
+    let variable = c.args.span.cut.variable in
+    kept_out (λ s. (IsInSpace c.args.space.now s × (c.args.span.cut.most < number_of s variable)) ×
     IsMatched cubes s c.args.hint.place) c.args.hint.place c.args.high.now.items
     (λ s h. past_none c.args.cubes.now c.args.hint.place s c.in_default.ensures.lookup.0 h.1)
 

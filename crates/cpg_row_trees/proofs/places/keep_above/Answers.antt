@@ -14,8 +14,8 @@ use Rattle.cpg_row_trees.proofs.places.keep_above.Goals as goal
 -- no number above the cut is in the range, so no scenario above the cut matches
 pub returns-then-range-saturating_add-clause-kept : goal.returns-then-range-saturating_add-clause-kept
 returns-then-range-saturating_add-clause-kept c =
-    let v = c.args.span.cut.variable in
-    kept_out (λ s. (IsInSpace c.args.space.now s × (c.args.span.cut.most < number_of s v)) ×
+    let variable = c.args.span.cut.variable in
+    kept_out (λ s. (IsInSpace c.args.space.now s × (c.args.span.cut.most < number_of s variable)) ×
     (matches c.args.literals.now s ≡ true)) c.args.hint.place c.args.high.now.items (λ s h.
     omega (
       arith,
@@ -28,8 +28,8 @@ returns-then-range-saturating_add-clause-kept c =
 -- above the cut too few faults are left for the literals, so no scenario there matches
 pub returns-then-not-do_suffice_above-clause-kept : goal.returns-then-not-do_suffice_above-clause-kept
 returns-then-not-do_suffice_above-clause-kept c =
-    let v = c.args.span.cut.variable in
-    kept_out (λ s. (IsInSpace c.args.space.now s × (c.args.span.cut.most < number_of s v)) ×
+    let variable = c.args.span.cut.variable in
+    kept_out (λ s. (IsInSpace c.args.space.now s × (c.args.span.cut.most < number_of s variable)) ×
     (matches c.args.literals.now s ≡ true)) c.args.hint.place c.args.high.now.items (λ s h.
     both_ways (matches c.args.literals.now s) (from_false c.do_suffice_above.result c.if-not-do_suffice_above.true
     c.do_suffice_above.ensures.none s h.0.0 h.0.1) h.1)
@@ -37,8 +37,8 @@ returns-then-not-do_suffice_above-clause-kept c =
 -- the place was added to those that were there
 pub returns-clause-kept : goal.returns-clause-kept
 returns-clause-kept c =
-    let v = c.args.span.cut.variable in
-    let fits : Scenario → Type 0 = λ s. (IsInSpace c.args.space.now s × (c.args.span.cut.most < number_of s v)) ×
+    let variable = c.args.span.cut.variable in
+    let fits : Scenario → Type 0 = λ s. (IsInSpace c.args.space.now s × (c.args.span.cut.most < number_of s variable)) ×
     (matches c.args.literals.now s ≡ true) in
     subst (λ (es : List PlaceHint). KeepsPlace fits c.args.hint.place c.args.high.now.items es)
     (sym c.in_ok-push.ensures.items)

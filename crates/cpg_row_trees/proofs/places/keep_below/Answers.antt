@@ -10,15 +10,17 @@ use Rattle.cpg_row_trees.proofs.places.keep_below.Goals as goal
 -- a range above the cut has no number up to it, so the place may be left out
 pub returns-then-range-span : goal.returns-then-range-span
 returns-then-range-span c =
-    let v = c.args.span.cut.variable in
-    kept_out (λ s. (number_of s v ≤ c.args.span.cut.most) × (c.args.range.low ≤ number_of s v)) c.args.hint.place
+    let variable = c.args.span.cut.variable in
+    kept_out (λ s. (number_of s variable ≤ c.args.span.cut.most) ×
+    (c.args.range.low ≤ number_of s variable)) c.args.hint.place
     c.args.low.now.items (λ s h. omega (arith, h.0, h.1, c.if-range-span.true))
 
 -- the place was added to those that were there
 pub returns : goal.returns
 returns c =
-    let v = c.args.span.cut.variable in
-    let fits : Scenario → Type 0 = λ s. (number_of s v ≤ c.args.span.cut.most) × (c.args.range.low ≤ number_of s v) in
+    let variable = c.args.span.cut.variable in
+    let fits : Scenario → Type 0 = λ s. (number_of s variable ≤ c.args.span.cut.most) ×
+    (c.args.range.low ≤ number_of s variable) in
     subst (λ (es : List PlaceHint). KeepsPlace fits c.args.hint.place c.args.low.now.items es)
     (sym c.in_ok-push.ensures.items)
     (kept_in fits c.args.hint.place c.args.low.now.items

@@ -15,10 +15,10 @@ use Rattle.cpg_row_trees.proofs.places.parted.Goals as goal
 pub loop-hint-init : goal.loop-hint-init
 loop-hint-init c =
     let cubes : List (List Literal) = map (λ (b : Bor (List Literal)). b.now) c.args.cubes.now in
-    let v = c.args.span.cut.variable in
+    let variable = c.args.span.cut.variable in
     record {
-      low = keeps_none cubes (λ s. number_of s v ≤ c.args.span.cut.most) (places_of c.in_ok-low.low.items);
-      high = keeps_none cubes (λ s. IsInSpace c.args.space.now s × (c.args.span.cut.most < number_of s v))
+      low = keeps_none cubes (λ s. number_of s variable ≤ c.args.span.cut.most) (places_of c.in_ok-low.low.items);
+      high = keeps_none cubes (λ s. IsInSpace c.args.space.now s × (c.args.span.cut.most < number_of s variable))
           (places_of c.in_ok-high.high.items);
       same = refl;
     }
@@ -27,18 +27,18 @@ loop-hint-init c =
 pub loop-hint-preserved : goal.loop-hint-preserved
 loop-hint-preserved c =
     let cubes : List (List Literal) = map (λ (b : Bor (List Literal)). b.now) c.args.cubes.now in
-    let v = c.args.span.cut.variable in
+    let variable = c.args.span.cut.variable in
     let none : PlaceHint = record { place = 0; held = 0; spare = 0 } in
     record {
       -- `keep` says so of the next hint for the side below, and the invariant of those before
-      low = keeps_more cubes (λ s. number_of s v ≤ c.args.span.cut.most) c.args.hints.now c.loop-hint.low.items
+      low = keeps_more cubes (λ s. number_of s variable ≤ c.args.span.cut.most) c.args.hints.now c.loop-hint.low.items
           c.keep.new.low.items c.loop-hint.hint-index none c.loop-hint-test.true
           c.in_ok-keep.ensures.low c.loop-hint.invariant.low;
       -- the side above keeps its places too: the space that `keep` speaks of is the one given
-      high = keeps_more cubes (λ s. IsInSpace c.args.space.now s × (c.args.span.cut.most < number_of s v))
+      high = keeps_more cubes (λ s. IsInSpace c.args.space.now s × (c.args.span.cut.most < number_of s variable))
           c.args.hints.now c.loop-hint.high.items c.keep.new.high.items c.loop-hint.hint-index none
           c.loop-hint-test.true
-          (subst (λ (r : Space). KeepsPlace (λ s. (IsInSpace r s × (c.args.span.cut.most < number_of s v)) ×
+          (subst (λ (r : Space). KeepsPlace (λ s. (IsInSpace r s × (c.args.span.cut.most < number_of s variable)) ×
           IsMatched cubes s (get_or c.args.hints.now c.loop-hint.hint-index none).place)
           (get_or c.args.hints.now c.loop-hint.hint-index none).place c.loop-hint.high.items c.keep.new.high.items)
           c.loop-hint.invariant.same c.in_ok-keep.ensures.high)

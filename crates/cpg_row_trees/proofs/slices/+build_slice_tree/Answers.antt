@@ -39,7 +39,7 @@ build_forked_slice-build_slice_tree-requires t c = (
 pub build_forked_slice-build_slice_tree-requires-2 : goal.build_forked_slice-build_slice_tree-requires-2
 build_forked_slice-build_slice_tree-requires-2 t c =
     let space : Space = c.args.space.now in
-    let v = c.args.part.cut.variable in
+    let variable = c.args.part.cut.variable in
     let cut = c.args.part.cut.most in
     -- the space below the cut, the one above it, and the space as it is opened again
     let under : Space = c.close_above-old_high.new.self in
@@ -48,10 +48,10 @@ build_forked_slice-build_slice_tree-requires-2 t c =
     -- the side below leaves its space as it was, so that what is opened again is the given space
     let same : c.build_slice_tree.new.space ≡ under =
     OnTrue_at c.if-not-has_below.false c.in_ok-has_below.ensures.same in
-    let back : again ≡ space = above_again space under c.build_slice_tree.new.space again v same
+    let back : again ≡ space = above_again space under c.build_slice_tree.new.space again variable same
     c.close_above-old_high.result c.reopen_above.ensures c.close_above-old_high.ensures.back in
-    let is_over = over_again space again over v cut back c.close_below-old_low.ensures.is in
-    let goes_over = goes_again space again over v cut back c.close_below-old_low.ensures.lies in
+    let is_over = over_again space again over variable cut back c.close_below-old_low.ensures.is in
+    let goes_over = goes_again space again over variable cut back c.close_below-old_low.ensures.lies in
     let below = OnTrue_at c.if-not-has_below.false c.in_ok-has_below.ensures.added in
     -- the path is left as it was entered
     let same_path : c.build_slice_tree.new.path.items ≡ c.enter.new.path.items =
@@ -61,9 +61,9 @@ build_forked_slice-build_slice_tree-requires-2 t c =
       -- fewer items are left; the scenarios of the space above, by its literals and by its ranges
       omega (arith, c.decreases, below.fewer),
       (
-        over_reached c.args.k space over v cut c.args.slice.narrow c.in-Some.narrow (search rules)
+        over_reached c.args.k space over variable cut c.args.slice.narrow c.in-Some.narrow (search rules)
             c.sides_of-sides.ensures.lows c.requires.reached c.requires.open c.in-Some.ensures is_over goes_over,
-        own_over c.args.k space over v cut c.args.slice.narrow c.in-Some.narrow
+        own_over c.args.k space over variable cut c.args.slice.narrow c.in-Some.narrow
             (search rules) c.requires.reached c.requires.open c.in-Some.ensures
             c.args.path.now.items c.enter-2.new.path.items c.requires.own c.sides_of-sides.ensures.lows is_over
             goes_over c.sides_of-sides.result.above c.sides_of-sides.ensures.sides.above
@@ -78,12 +78,12 @@ build_forked_slice-close_below-old_low-requires t c =
     let space : Space = c.args.space.now in
     let under : Space = c.close_above-old_high.new.self in
     let again : Space = c.reopen_above.new.self in
-    let v = c.args.part.cut.variable in
+    let variable = c.args.part.cut.variable in
     let same : c.build_slice_tree.new.space ≡ under =
     OnTrue_at c.if-not-has_below.false c.in_ok-has_below.ensures.same in
-    let back : again ≡ space = above_again space under c.build_slice_tree.new.space again v same
+    let back : again ≡ space = above_again space under c.build_slice_tree.new.space again variable same
     c.close_above-old_high.result c.reopen_above.ensures c.close_above-old_high.ensures.back in
-    let is_open = open_again space again v c.args.part.cut.most back c.requires.open in
+    let is_open = open_again space again variable c.args.part.cut.most back c.requires.open in
     record { below = is_open.below; above = is_open.above }
 
 -- each side has added its tree behind what was there
@@ -102,7 +102,7 @@ build_forked_slice-plain_fork-requires t c =
 pub build_forked_slice-returns : goal.build_forked_slice-returns
 build_forked_slice-returns t c =
     let space : Space = c.args.space.now in
-    let v = c.args.part.cut.variable in
+    let variable = c.args.part.cut.variable in
     let cut = c.args.part.cut.most in
     -- the space below the cut, the one above it, and the space as it is opened again
     let under : Space = c.close_above-old_high.new.self in
@@ -111,10 +111,10 @@ build_forked_slice-returns t c =
     -- each side leaves its space as it was, so that what is opened again is the given space
     let same : c.build_slice_tree.new.space ≡ under =
     OnTrue_at c.if-not-has_below.false c.in_ok-has_below.ensures.same in
-    let back : again ≡ space = above_again space under c.build_slice_tree.new.space again v same
+    let back : again ≡ space = above_again space under c.build_slice_tree.new.space again variable same
     c.close_above-old_high.result c.reopen_above.ensures c.close_above-old_high.ensures.back in
-    let is_over = over_again space again over v cut back c.close_below-old_low.ensures.is in
-    let goes_over = goes_again space again over v cut back c.close_below-old_low.ensures.lies in
+    let is_over = over_again space again over variable cut back c.close_below-old_low.ensures.is in
+    let goes_over = goes_again space again over variable cut back c.close_below-old_low.ensures.lies in
     let cubes : List (List Literal) = map (λ (b : Bor (List Literal)). b.now) c.args.cubes.now in
     let new : TreeGrowth = record { items = c.plain_fork.new.out; left = c.build_slice_tree-2.new.growth.left } in
     let same_over : c.build_slice_tree-2.new.space ≡ over =
@@ -129,7 +129,7 @@ build_forked_slice-returns t c =
     -- the tree is made of those of the sides; path and space are as before
     record {
       added = slice_tree_parted cubes c.args.k space under over c.args.slice.from c.border_of-border.result
-          c.args.slice.to v cut c.args.slice.narrow c.in-Some.narrow
+          c.args.slice.to variable cut c.args.slice.narrow c.in-Some.narrow
           (search rules) c.sides_of-sides.ensures.lows c.sides_of-sides.ensures.highs c.requires.reached c.requires.open
           c.in-Some.ensures c.close_above-old_high.ensures.is is_over
           c.close_above-old_high.ensures.lies goes_over
@@ -140,7 +140,7 @@ build_forked_slice-returns t c =
           (OnTrue_at c.if-not-has_below.false c.in_ok-has_below.ensures.added)
           (OnTrue_at c.if-not-has_above.false c.in_ok-has_above.ensures.added);
       path = c.leave-2.ensures ∙ ap (left_by c.in_ok-over.over) same_above ∙ c.in_ok-over.ensures.back ∙ left;
-      same = below_again again over c.build_slice_tree-2.new.space c.reopen_below.new.self v same_over
+      same = below_again again over c.build_slice_tree-2.new.space c.reopen_below.new.self variable same_over
           c.close_below-old_low.result c.reopen_below.ensures c.close_below-old_low.ensures.back ∙ back;
     }
 

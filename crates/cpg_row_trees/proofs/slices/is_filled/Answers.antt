@@ -8,7 +8,12 @@ use Rattle.cpg_row_trees.proofs.slices.is_filled.Goals as goal
 -- the literal allows all numbers from the low of the space to its high
 pub returns : goal.returns
 returns c =
-    let l = c.args.literal.now in
-    OnTrue_from (nat_le (get_or c.args.space.now.high l.variable 0) l.high) _
-    (λ e s lies. holds-from s l (omega (arith, c.if-space-literal.false, lies.low l.variable (search rules)))
-    (omega (arith, lies.high l.variable (search rules), leb-true (get_or c.args.space.now.high l.variable 0) l.high e)))
+    let literal = c.args.literal.now in
+    OnTrue_from (nat_le (get_or c.args.space.now.high literal.variable 0) literal.high) _
+    (λ e s lies. holds-from s literal
+    (omega (arith, c.if-space-literal.false, lies.low literal.variable (search rules)))
+    (omega (
+      arith,
+      lies.high literal.variable (search rules),
+      leb-true (get_or c.args.space.now.high literal.variable 0) literal.high e,
+    )))

@@ -67,7 +67,7 @@ do_pass_both-returns-else-not-do_pass_beside-2-clause-passed g t c n m are secon
     -- the part of the other tree that the space comes to
     let part = c.part_in-part.ensures.part m seconds in
     let space : Space = c.args.space.now in
-    let v = c.in-Cut.variable in
+    let variable = c.in-Cut.variable in
     let cut = c.in-Cut.cut in
     -- the space below the cut, the one above it, and the space as it is opened again
     let under : Space = c.close_above-old_high.new.self in
@@ -76,9 +76,10 @@ do_pass_both-returns-else-not-do_pass_beside-2-clause-passed g t c n m are secon
     -- the side below leaves its space as it was, so that what is opened again is the given space
     let same : c.do_pass_beside.new.space ≡ under =
     from_true c.do_pass_beside.result c.if-not-do_pass_beside.false c.do_pass_beside.ensures.same in
-    let back : again ≡ space = above_again space under c.do_pass_beside.new.space again v same c.close_above-old_high.result
+    let back : again ≡ space = above_again space under c.do_pass_beside.new.space again variable same
+    c.close_above-old_high.result
     c.reopen_above.ensures c.close_above-old_high.ensures.back in
-    let goes_over = goes_again space again over v cut back c.close_below-old_low.ensures.lies in
+    let goes_over = goes_again space again over variable cut back c.close_below-old_low.ensures.lies in
     -- the test passes below the cut and above it
     let low = from_true c.do_pass_beside.result c.if-not-do_pass_beside.false c.do_pass_beside.ensures.passed shows.0
     part.0 shows.2 part.1 in
@@ -87,8 +88,8 @@ do_pass_both-returns-else-not-do_pass_beside-2-clause-passed g t c n m are secon
     -- so it passes at each two places that a scenario of the space comes to
     holds_beside (g.J.PairTest.guarantees c.args.test.now) space n part.0 m part.2.same.value
     (holds_fork (λ (x : Option ℕ) (s : Scenario). g.J.PairTest.guarantees c.args.test.now x (value_at part.0 s) s) space
-    v cut shows.0 shows.1 n
-    (flat-same n (Fork v cut shows.0 shows.1) (sym are ∙ shows.4))
+    variable cut shows.0 shows.1 n
+    (flat-same n (Fork variable cut shows.0 shows.1) (sym are ∙ shows.4))
     (λ s lies h. low s (c.close_above-old_high.ensures.lies s lies h)) (λ s lies h. high s (goes_over s lies h)))
 
 -- the cut is open in the space that is opened again, which is the given one
@@ -97,12 +98,12 @@ do_pass_both-close_below-old_low-requires g t c =
     let space : Space = c.args.space.now in
     let under : Space = c.close_above-old_high.new.self in
     let again : Space = c.reopen_above.new.self in
-    let v = c.in-Cut.variable in
+    let variable = c.in-Cut.variable in
     let same : c.do_pass_beside.new.space ≡ under =
     from_true c.do_pass_beside.result c.if-not-do_pass_beside.false c.do_pass_beside.ensures.same in
-    let back : again ≡ space = above_again space under c.do_pass_beside.new.space again v same
+    let back : again ≡ space = above_again space under c.do_pass_beside.new.space again variable same
     c.close_above-old_high.result c.reopen_above.ensures c.close_above-old_high.ensures.back in
-    let is_open = open_again space again v c.in-Cut.cut back (record {
+    let is_open = open_again space again variable c.in-Cut.cut back (record {
       below = sym c.is_open_below.ensures.is ∙ c.if-not-is_open_below.false;
       above = sym c.is_open_above.ensures.is ∙ c.if-not-is_open_above.false;
     }) in
@@ -113,7 +114,7 @@ pub do_pass_both-returns-else-not-do_pass_beside-2-clause-same :
     goal.do_pass_both-returns-else-not-do_pass_beside-2-clause-same
 do_pass_both-returns-else-not-do_pass_beside-2-clause-same g t c =
     let space : Space = c.args.space.now in
-    let v = c.in-Cut.variable in
+    let variable = c.in-Cut.variable in
     let under : Space = c.close_above-old_high.new.self in
     let over : Space = c.close_below-old_low.new.self in
     let again : Space = c.reopen_above.new.self in
@@ -121,9 +122,9 @@ do_pass_both-returns-else-not-do_pass_beside-2-clause-same g t c =
     from_true c.do_pass_beside.result c.if-not-do_pass_beside.false c.do_pass_beside.ensures.same in
     let same_over : c.do_pass_beside-in-Cut.new.space ≡ over =
     from_true c.do_pass_beside-in-Cut.result c.if-not-do_pass_beside-2.false c.do_pass_beside-in-Cut.ensures.same in
-    below_again again over c.do_pass_beside-in-Cut.new.space c.reopen_below.new.self v same_over
+    below_again again over c.do_pass_beside-in-Cut.new.space c.reopen_below.new.self variable same_over
     c.close_below-old_low.result c.reopen_below.ensures c.close_below-old_low.ensures.back
-    ∙ above_again space under c.do_pass_beside.new.space again v same_under c.close_above-old_high.result
+    ∙ above_again space under c.do_pass_beside.new.space again variable same_under c.close_above-old_high.result
     c.reopen_above.ensures c.close_above-old_high.ensures.back
 
 -- the first tree is one leaf, which passes beside each place of the second

@@ -50,7 +50,7 @@ do_pass_each-returns-else-not-do_pass_side-2-clause-passed g t c n are =
     -- what the top shows: the trees of both sides (0, 1), and that the lists are theirs (2, 3) and their fork's (4)
     let shows = c.in-Cut.ensures.shows in
     let space : Space = c.args.space.now in
-    let v = c.in-Cut.variable in
+    let variable = c.in-Cut.variable in
     let cut = c.in-Cut.cut in
     -- the space below the cut, the one above it, and the space as it is opened again
     let under : Space = c.close_above-old_high.new.self in
@@ -59,17 +59,19 @@ do_pass_each-returns-else-not-do_pass_side-2-clause-passed g t c n are =
     -- the side below leaves its space as it was, so that what is opened again is the given space
     let same : c.do_pass_side.new.space ≡ under =
     from_true c.do_pass_side.result c.if-not-do_pass_side.false c.do_pass_side.ensures.same in
-    let back : again ≡ space = above_again space under c.do_pass_side.new.space again v same c.close_above-old_high.result
+    let back : again ≡ space = above_again space under c.do_pass_side.new.space again variable same
+    c.close_above-old_high.result
     c.reopen_above.ensures c.close_above-old_high.ensures.back in
-    let goes_over = goes_again space again over v cut back c.close_below-old_low.ensures.lies in
+    let goes_over = goes_again space again over variable cut back c.close_below-old_low.ensures.lies in
     -- the test passes below the cut and above it
     let low =
     from_true c.do_pass_side.result c.if-not-do_pass_side.false c.do_pass_side.ensures.passed shows.0 shows.2 in
     let high = from_true c.do_pass_side-in-Cut.result c.if-not-do_pass_side-2.false c.do_pass_side-in-Cut.ensures.passed
     shows.1 shows.3 in
     -- so it passes at each place that a scenario of the space comes to
-    holds_fork (λ (x : Option ℕ) (s : Scenario). g.J.Test.guarantees c.args.test.now x s) space v cut shows.0 shows.1 n
-    (flat-same n (Fork v cut shows.0 shows.1) (sym are ∙ shows.4))
+    holds_fork (λ (x : Option ℕ) (s : Scenario). g.J.Test.guarantees c.args.test.now x s) space
+    variable cut shows.0 shows.1 n
+    (flat-same n (Fork variable cut shows.0 shows.1) (sym are ∙ shows.4))
     (λ s lies h. low s (c.close_above-old_high.ensures.lies s lies h)) (λ s lies h. high s (goes_over s lies h))
 
 -- the cut is open in the space that is opened again, which is the given one
@@ -78,12 +80,12 @@ do_pass_each-close_below-old_low-requires g t c =
     let space : Space = c.args.space.now in
     let under : Space = c.close_above-old_high.new.self in
     let again : Space = c.reopen_above.new.self in
-    let v = c.in-Cut.variable in
+    let variable = c.in-Cut.variable in
     let same : c.do_pass_side.new.space ≡ under =
     from_true c.do_pass_side.result c.if-not-do_pass_side.false c.do_pass_side.ensures.same in
-    let back : again ≡ space = above_again space under c.do_pass_side.new.space again v same
+    let back : again ≡ space = above_again space under c.do_pass_side.new.space again variable same
     c.close_above-old_high.result c.reopen_above.ensures c.close_above-old_high.ensures.back in
-    let is_open = open_again space again v c.in-Cut.cut back (record {
+    let is_open = open_again space again variable c.in-Cut.cut back (record {
       below = sym c.is_open_below.ensures.is ∙ c.if-not-is_open_below.false;
       above = sym c.is_open_above.ensures.is ∙ c.if-not-is_open_above.false;
     }) in
@@ -94,7 +96,7 @@ pub do_pass_each-returns-else-not-do_pass_side-2-clause-same :
     goal.do_pass_each-returns-else-not-do_pass_side-2-clause-same
 do_pass_each-returns-else-not-do_pass_side-2-clause-same g t c =
     let space : Space = c.args.space.now in
-    let v = c.in-Cut.variable in
+    let variable = c.in-Cut.variable in
     let under : Space = c.close_above-old_high.new.self in
     let over : Space = c.close_below-old_low.new.self in
     let again : Space = c.reopen_above.new.self in
@@ -102,9 +104,9 @@ do_pass_each-returns-else-not-do_pass_side-2-clause-same g t c =
     from_true c.do_pass_side.result c.if-not-do_pass_side.false c.do_pass_side.ensures.same in
     let same_over : c.do_pass_side-in-Cut.new.space ≡ over =
     from_true c.do_pass_side-in-Cut.result c.if-not-do_pass_side-2.false c.do_pass_side-in-Cut.ensures.same in
-    below_again again over c.do_pass_side-in-Cut.new.space c.reopen_below.new.self v same_over
+    below_again again over c.do_pass_side-in-Cut.new.space c.reopen_below.new.self variable same_over
     c.close_below-old_low.result c.reopen_below.ensures c.close_below-old_low.ensures.back
-    ∙ above_again space under c.do_pass_side.new.space again v same_under c.close_above-old_high.result
+    ∙ above_again space under c.do_pass_side.new.space again variable same_under c.close_above-old_high.result
     c.reopen_above.ensures c.close_above-old_high.ensures.back
 
 -- a leaf: the test has passed at its place, to which each scenario of the space comes

@@ -12,42 +12,43 @@ use Rattle.cpg_rules.proofs.given.is_early.Goals.{then-edge-process+else-place, 
 pub returns-then-place : goal.returns-then-place
 returns-then-place c =
     let g = c.args.problem.now in
-    let e = c.loop-edge.edge-index in
-    let l : e < edge_count g = omega (arith, ap length c.edges-edge-items.ensures.edges) in
+    let edge = c.loop-edge.edge-index in
+    let edge_below : edge < edge_count g = omega (arith, ap length c.edges-edge-items.ensures.edges) in
     let at = rw c.edges-edge-items.ensures.edges at c.if-edge-process.true in
     -- the place of the source, and that the process has one
     let from = rw c.edges-edge-items.ensures.edges at c.place.ensures.place in
     let inside : c.args.process < length c.args.order.now = omega (arith, c.requires.process, c.requires.order) in
-    sym (early_by g c.args.order.now c.args.process e l at
+    sym (early_by g c.args.order.now c.args.process edge edge_below at
     (comes_before_at c.args.order.now c.place-place.ensures.order c.args.process
-    (source g e) c.place-place.result c.place.result inside c.place-place.ensures.place from c.if-place.true))
+    (source g edge) c.place-place.result c.place.result inside c.place-place.ensures.place from c.if-place.true))
 
 -- this edge doesn't show that the process is early, and neither do those before it
 pub loop-edge-preserved : goal.loop-edge-preserved
-loop-edge-preserved c e l at =
+loop-edge-preserved c e before_next at =
     let g = c.args.problem.now in
-    let i = c.loop-edge.edge-index in
+    let here = c.loop-edge.edge-index in
     elim c.if-edge-process.branch [
       -- an edge that leads to the process
-      | then-edge-process+else-place w ↦ elim (cases_eq e i) [
+      | then-edge-process+else-place leads_here ↦ elim (cases_eq e here) [
         -- it is the edge asked for: its source doesn't come after the process
         | inl same ↦
-            let from = rw c.edges-edge-items.ensures.edges at w.place.ensures.place in
+            let from = rw c.edges-edge-items.ensures.edges at leads_here.place.ensures.place in
             subst (λ f. comes_before c.args.order.now c.args.process (source g f) ≡ false) (sym same)
-            (false_from_ne_true (comes_before c.args.order.now c.args.process (source g i))
+            (false_from_ne_true (comes_before c.args.order.now c.args.process (source g here))
             (not_before_at c.args.order.now c.args.process
-            (source g i) c.place-place.result w.place.result c.place-place.ensures.place from w.if-place.false))
+            (source g here) c.place-place.result leads_here.place.result c.place-place.ensures.place from
+            leads_here.if-place.false))
         -- an earlier edge: the invariant says so already
-        | inr other ↦ c.loop-edge.invariant e (omega (arith, l, other)) at
+        | inr other ↦ c.loop-edge.invariant e (omega (arith, before_next, other)) at
       ]
       -- the edge leads to another process
-      | else-edge-process w ↦ elim (cases_eq e i) [
+      | else-edge-process leads_elsewhere ↦ elim (cases_eq e here) [
         -- it can't be the edge that is asked for
         | inl same ↦
-            let apart = rw c.edges-edge-items.ensures.edges at w.if-edge-process.false in
+            let apart = rw c.edges-edge-items.ensures.edges at leads_elsewhere.if-edge-process.false in
             absurd (apart (subst (λ f. target g f ≡ c.args.process) same at))
         -- an earlier edge: the invariant says so already
-        | inr other ↦ c.loop-edge.invariant e (omega (arith, l, other)) at
+        | inr other ↦ c.loop-edge.invariant e (omega (arith, before_next, other)) at
       ]
     ]
 

@@ -7,6 +7,7 @@ use Rattle.cpg_rules.proofs.steps.steps_of.Goals as goal
 pub step_of-requires : goal.step_of-requires
 step_of-requires c =
     let same = c.processes-process-items.ensures.processes in
-    let w = process_within c.args.order.now c.processes-process-items.ensures.order c.loop-process.process-index
+    let process_below = process_within c.args.order.now c.processes-process-items.ensures.order
+    c.loop-process.process-index
     (omega (arith, ap length same)) in
     rw same (omega arith)

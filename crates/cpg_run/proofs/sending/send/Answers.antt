@@ -34,9 +34,9 @@ loop-item-init c = record {
 -- a node with an item in its queue has a slot
 pub send_time-time-requires-clause-slot : goal.send_time-time-requires-clause-slot
 send_time-time-requires-clause-slot c =
-    let a = c.requires.setting.admitted in
+    let admitted = c.requires.setting.admitted in
     subst (HasSlot c.args.setting.now.problem.now) (sym c.node_of-node.ensures.node)
-    (queued_slot c.args.setting.now.problem.now a.1.slots c.args.process
+    (queued_slot c.args.setting.now.problem.now admitted.1.slots c.args.process
     (get_or c.queue-item-items.result.now c.loop-item.item-index 0)
     (item_queued c.queue-item-items.result.now (queue_of c.args.setting.now.problem.now c.args.process)
     c.loop-item.item-index c.loop-item-test.true c.queue-item-items.ensures))
@@ -44,46 +44,46 @@ send_time-time-requires-clause-slot c =
 -- an item in the queue is an item of the graph, so it has a place among the frozen times
 pub send_time-time-requires-clause-frozen : goal.send_time-time-requires-clause-frozen
 send_time-time-requires-clause-frozen c =
-    let x = in_queue c.args.setting.now.problem.now c.args.process
+    let queued = in_queue c.args.setting.now.problem.now c.args.process
     (get_or c.queue-item-items.result.now c.loop-item.item-index 0)
     (item_queued c.queue-item-items.result.now (queue_of c.args.setting.now.problem.now c.args.process)
     c.loop-item.item-index c.loop-item-test.true c.queue-item-items.ensures) in
-    omega (arith, x.within, c.requires.frozen)
+    omega (arith, queued.within, c.requires.frozen)
 
 -- the end of the process is that of the scenario's run, and all ends of a run are below 2 ^ 59
 pub send_time-time-requires-clause-early : goal.send_time-time-requires-clause-early
 send_time-time-requires-clause-early c =
-    let a = c.requires.setting.admitted in
-    let r = a_run c.args.setting.now.problem.now c.args.setting.now.order.now c.args.frozen.now c.args.scenario.now
-    c.requires.setting.topological in
+    let admitted = c.requires.setting.admitted in
+    let found_run = a_run c.args.setting.now.problem.now c.args.setting.now.order.now c.args.frozen.now
+    c.args.scenario.now c.requires.setting.topological in
     let small = run_small c.args.setting.now.problem.now c.args.setting.now.order.now c.args.frozen.now
-    c.args.scenario.now r.0 a.1.limits c.requires.setting.topological c.requires.scenario
-    c.requires.early r.1 in
-    omega (arith, c.end-end.ensures, (c.requires.can r.0 r.1).ends, small.ends c.args.process)
+    c.args.scenario.now found_run.0 admitted.1.limits c.requires.setting.topological c.requires.scenario
+    c.requires.early found_run.1 in
+    omega (arith, c.end-end.ensures, (c.requires.can found_run.0 found_run.1).ends, small.ends c.args.process)
 
 -- an item in the queue is an item of the graph, so it has a place among the times
 pub set_time-requires : goal.set_time-requires
 set_time-requires c =
-    let x = in_queue c.args.setting.now.problem.now c.args.process
+    let queued = in_queue c.args.setting.now.problem.now c.args.process
     (get_or c.queue-item-items.result.now c.loop-item.item-index 0)
     (item_queued c.queue-item-items.result.now (queue_of c.args.setting.now.problem.now c.args.process)
     c.loop-item.item-index c.loop-item-test.true c.queue-item-items.ensures) in
-    omega (arith, x.within, c.requires.times, c.loop-item.invariant.keeps.times)
+    omega (arith, queued.within, c.requires.times, c.loop-item.invariant.keeps.times)
 
 -- the time is that of the run and so below 2 ^ 59, a round is short, and so the sum doesn't overflow
 pub overflow_add-free : goal.overflow_add-free
 overflow_add-free c =
-    let a = c.requires.setting.admitted in
+    let admitted = c.requires.setting.admitted in
     -- the run has small times
-    let r = a_run c.args.setting.now.problem.now c.args.setting.now.order.now c.args.frozen.now c.args.scenario.now
-    c.requires.setting.topological in
+    let found_run = a_run c.args.setting.now.problem.now c.args.setting.now.order.now c.args.frozen.now
+    c.args.scenario.now c.requires.setting.topological in
     let small = run_small c.args.setting.now.problem.now c.args.setting.now.order.now c.args.frozen.now
-    c.args.scenario.now r.0 a.1.limits c.requires.setting.topological c.requires.scenario
-    c.requires.early r.1 in
+    c.args.scenario.now found_run.0 admitted.1.limits c.requires.setting.topological c.requires.scenario
+    c.requires.early found_run.1 in
     -- the item is the one at this place of the process's queue, and active
-    let qs = queue_of c.args.setting.now.problem.now c.args.process in
+    let queue = queue_of c.args.setting.now.problem.now c.args.process in
     let here = ap (λ xs. get_or xs c.loop-item.item-index 0) c.queue-item-items.ensures in
-    let inside : c.loop-item.item-index < length qs =
+    let inside : c.loop-item.item-index < length queue =
     omega (arith, ap length c.queue-item-items.ensures, c.loop-item-test.true) in
     let acts = ap (λ x. item_active c.args.setting.now.problem.now c.args.scenario.now.values
     (item_at c.args.setting.now.problem.now x)) (sym here) ∙ sym c.is_item_active.ensures ∙
@@ -91,90 +91,91 @@ overflow_add-free c =
     -- the time that is found is that of the run
     let at = found_is c.args.setting.now.problem.now c.args.frozen.now c.send_time-time.result c.loop-item.free
     c.node_of-node.result
-    (node_of c.args.setting.now.problem.now c.args.process) c.end-end.result (end_in r.0 c.args.process)
+    (node_of c.args.setting.now.problem.now c.args.process) c.end-end.result (end_in found_run.0 c.args.process)
     (get_or c.queue-item-items.result.now c.loop-item.item-index 0)
-    (get_or qs c.loop-item.item-index 0) c.send_time-time.ensures c.node_of-node.ensures.node
-    (c.end-end.ensures ∙ (c.requires.can r.0 r.1).ends) here in
+    (get_or queue c.loop-item.item-index 0) c.send_time-time.ensures c.node_of-node.ensures.node
+    (c.end-end.ensures ∙ (c.requires.can found_run.0 found_run.1).ends) here in
     let is = send_is c.args.setting.now.problem.now c.args.setting.now.order.now c.requires.setting.topological
     c.args.scenario.now c.args.process c.requires.process c.loop-item.item-index inside
-    c.args.frozen.now r.0 r.1 c.loop-item.free
-    (c.loop-item.invariant.sent r.0 r.1).slots_free acts in
+    c.args.frozen.now found_run.0 found_run.1 c.loop-item.free
+    (c.loop-item.invariant.sent found_run.0 found_run.1).slots_free acts in
     -- a small time and a round fit a number of 64 bits
     omega (
       arith,
       at,
       is,
-      small.times (get_or qs c.loop-item.item-index 0),
+      small.times (get_or queue c.loop-item.item-index 0),
       c.round-round.ensures,
-      round-le c.args.setting.now.problem.now a.1.limits,
+      round-le c.args.setting.now.problem.now admitted.1.limits,
     )
 
 -- one more item is sent: an active one has its time set, and an inactive one has none in the run either
 pub loop-item-preserved : goal.loop-item-preserved
 loop-item-preserved c =
-    let qs = queue_of c.args.setting.now.problem.now c.args.process in
+    let queue = queue_of c.args.setting.now.problem.now c.args.process in
     -- the item is the one at this place of the process's queue
     let here = ap (λ xs. get_or xs c.loop-item.item-index 0) c.queue-item-items.ensures in
-    let inside : c.loop-item.item-index < length qs =
+    let inside : c.loop-item.item-index < length queue =
     omega (arith, ap length c.queue-item-items.ensures, c.loop-item-test.true) in
     elim c.if-is_item_active.branch [
       -- the item is active: its time is set
-      | then-is_item_active w ↦
+      | then-is_item_active active ↦
           let acts = ap (λ x. item_active c.args.setting.now.problem.now c.args.scenario.now.values
           (item_at c.args.setting.now.problem.now x)) (sym here) ∙ sym c.is_item_active.ensures ∙
-          w.if-is_item_active.true in
-          let x = in_queue c.args.setting.now.problem.now c.args.process (get_or qs c.loop-item.item-index 0)
-          (Contains-get_or qs c.loop-item.item-index 0 inside) in
+          active.if-is_item_active.true in
+          let queued = in_queue c.args.setting.now.problem.now c.args.process (get_or queue c.loop-item.item-index 0)
+          (Contains-get_or queue c.loop-item.item-index 0 inside) in
           let times : c.if-is_item_active.known.times
-          ≡ set c.loop-item.known.times (get_or qs c.loop-item.item-index 0) (Some w.send_time-time.result) =
-          ap (λ (k : Times). k.times) (w.known-is ∙ w.set_time.ensures)
-          ∙ ap (λ y. set c.loop-item.known.times y (Some w.send_time-time.result)) here in
+          ≡ set c.loop-item.known.times (get_or queue c.loop-item.item-index 0) (Some active.send_time-time.result) =
+          ap (λ (k : Times). k.times) (active.known-is ∙ active.set_time.ensures)
+          ∙ ap (λ y. set c.loop-item.known.times y (Some active.send_time-time.result)) here in
           record {
             -- in each run the time is the one found, and the slots are free a round later
             sent = λ t run.
                 let has = c.loop-item.invariant.sent t run in
-                let at = found_is c.args.setting.now.problem.now c.args.frozen.now w.send_time-time.result
+                let at = found_is c.args.setting.now.problem.now c.args.frozen.now active.send_time-time.result
                 c.loop-item.free c.node_of-node.result
                 (node_of c.args.setting.now.problem.now c.args.process) c.end-end.result (end_in t c.args.process)
                 (get_or c.queue-item-items.result.now c.loop-item.item-index 0)
-                (get_or qs c.loop-item.item-index 0) w.send_time-time.ensures c.node_of-node.ensures.node
+                (get_or queue c.loop-item.item-index 0) active.send_time-time.ensures c.node_of-node.ensures.node
                 (c.end-end.ensures ∙ (c.requires.can t run).ends) here in
                 subst (HasSent c.args.setting.now.problem.now c.args.setting.now.order.now c.args.scenario.now
                 t c.args.process
                 (c.loop-item.item-index + 1) c.args.known.now c.if-is_item_active.known)
-                (sym (w.free-is ∙ ap (λ n. w.send_time-time.result + n) c.round-round.ensures))
+                (sym (active.free-is ∙ ap (λ n. active.send_time-time.result + n) c.round-round.ensures))
                 (sent_active c.args.setting.now.problem.now c.args.setting.now.order.now c.requires.setting.topological
                 c.args.scenario.now c.args.process c.requires.process c.args.frozen.now t run
                 c.args.known.now c.loop-item.known c.loop-item.item-index c.loop-item.free inside has
-                c.if-is_item_active.known w.send_time-time.result
-                (omega (arith, x.within, c.requires.times, c.loop-item.invariant.keeps.times)) times acts at);
+                c.if-is_item_active.known active.send_time-time.result
+                (omega (arith, queued.within, c.requires.times, c.loop-item.invariant.keeps.times)) times acts at);
             -- only this time is set, and no end
             keeps = record {
-              times = ap length times ∙ length-set c.loop-item.known.times (get_or qs c.loop-item.item-index 0)
-                  (Some w.send_time-time.result) ∙ c.loop-item.invariant.keeps.times;
-              ends = ap (λ (k : Times). k.ends) (w.known-is ∙ w.set_time.ensures) ∙ c.loop-item.invariant.keeps.ends;
+              times = ap length times ∙ length-set c.loop-item.known.times (get_or queue c.loop-item.item-index 0)
+                  (Some active.send_time-time.result) ∙ c.loop-item.invariant.keeps.times;
+              ends = ap (λ (k : Times). k.ends) (active.known-is ∙ active.set_time.ensures)
+                  ∙ c.loop-item.invariant.keeps.ends;
             };
           }
       -- the item isn't active: nothing is set
-      | else-is_item_active w ↦
+      | else-is_item_active inactive ↦
           let idle = ap (λ x. item_active c.args.setting.now.problem.now c.args.scenario.now.values
           (item_at c.args.setting.now.problem.now x)) (sym here) ∙ sym c.is_item_active.ensures ∙
-          w.if-is_item_active.false in
+          inactive.if-is_item_active.false in
           record {
             -- in each run it has no time, and the slots stay free from the same time on
             sent = λ t run.
                 let has = c.loop-item.invariant.sent t run in
                 subst (λ k. HasSent c.args.setting.now.problem.now c.args.setting.now.order.now c.args.scenario.now
                 t c.args.process
-                (c.loop-item.item-index + 1) c.args.known.now k c.if-is_item_active.free) (sym w.known-is)
+                (c.loop-item.item-index + 1) c.args.known.now k c.if-is_item_active.free) (sym inactive.known-is)
                 (subst (HasSent c.args.setting.now.problem.now c.args.setting.now.order.now c.args.scenario.now t
                 c.args.process (c.loop-item.item-index + 1) c.args.known.now c.loop-item.known)
-                (sym w.free-is)
+                (sym inactive.free-is)
                 (sent_idle c.args.setting.now.problem.now c.args.setting.now.order.now c.requires.setting.topological
                 c.args.scenario.now c.args.process c.requires.process c.args.frozen.now t run
                 c.args.known.now c.loop-item.known c.loop-item.item-index c.loop-item.free inside has
                 (c.requires.can t run).none idle));
-            keeps = subst (KeepsEnds c.args.known.now) (sym w.known-is) c.loop-item.invariant.keeps;
+            keeps = subst (KeepsEnds c.args.known.now) (sym inactive.known-is) c.loop-item.invariant.keeps;
           }
     ]
 

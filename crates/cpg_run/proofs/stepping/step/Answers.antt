@@ -47,13 +47,13 @@ decided_there-requires-clause-process c =
 -- what is known is that of a run with small times, so it is small
 pub decided_there-requires-clause-small : goal.decided_there-requires-clause-small
 decided_there-requires-clause-small c =
-    let a = c.requires.setting.admitted in
-    let r = a_run c.args.setting.now.problem.now c.args.setting.now.order.now c.args.frozen.now c.args.scenario.now
-    c.requires.setting.topological in
-    known_small c.args.setting.now.problem.now c.args.setting.now.order.now r.0 c.args.place c.args.known.now
-    (c.requires.at r.0 r.1).knows c.requires.places.times c.requires.places.ends
-    (run_small c.args.setting.now.problem.now c.args.setting.now.order.now c.args.frozen.now c.args.scenario.now r.0
-    a.1.limits c.requires.setting.topological c.requires.scenario c.requires.early r.1)
+    let admitted = c.requires.setting.admitted in
+    let found_run = a_run c.args.setting.now.problem.now c.args.setting.now.order.now c.args.frozen.now
+    c.args.scenario.now c.requires.setting.topological in
+    known_small c.args.setting.now.problem.now c.args.setting.now.order.now found_run.0 c.args.place c.args.known.now
+    (c.requires.at found_run.0 found_run.1).knows c.requires.places.times c.requires.places.ends
+    (run_small c.args.setting.now.problem.now c.args.setting.now.order.now c.args.frozen.now c.args.scenario.now
+    found_run.0 admitted.1.limits c.requires.setting.topological c.requires.scenario c.requires.early found_run.1)
 
 -- an element of the order is a process of the graph
 pub is_active-requires-clause-process : goal.is_active-requires-clause-process
@@ -68,7 +68,7 @@ is_active-requires-clause-process c = omega (
 -- with that all is found before the next place
 pub returns-then-not-is_active-clause-at : goal.returns-then-not-is_active-clause-at
 returns-then-not-is_active-clause-at c t run =
-    let l : c.at-process.result < process_count c.args.setting.now.problem.now =
+    let below : c.at-process.result < process_count c.args.setting.now.problem.now =
     omega (
       arith,
       c.at-process.ensures.within,
@@ -76,7 +76,8 @@ returns-then-not-is_active-clause-at c t run =
           c.requires.setting.topological.all,
     ) in
     -- the process and its node are of the graph
-    let on : node_of c.args.setting.now.problem.now c.at-process.result < length c.args.setting.now.problem.now.nodes =
+    let node_below :
+    node_of c.args.setting.now.problem.now c.at-process.result < length c.args.setting.now.problem.now.nodes =
     omega (arith, c.node_of-node.ensures.node, c.node_of-node.ensures.within) in
     -- the node is ready when it has heard what decides the process
     let is_ready = node_read c.args.nodes.now.ready.items c.index.result.now c.node_of-node.result
@@ -89,8 +90,8 @@ returns-then-not-is_active-clause-at c t run =
     (set c.args.nodes.now.ready.items n c.max-ready.result) c.args.nodes.now.free.items)
     (sym c.node_of-node.ensures.node)
     (at_idle c.args.setting.now.problem.now c.args.setting.now.order.now c.requires.setting.topological
-    c.args.frozen.now c.args.scenario.now t run c.args.place c.at-process.result l
-    c.at-process.ensures.back on
+    c.args.frozen.now c.args.scenario.now t run c.args.place c.at-process.result below
+    c.at-process.ensures.back node_below
     c.args.known.now c.args.nodes.now.ready.items c.args.nodes.now.free.items (c.requires.at t run)
     c.requires.places.ready_count c.requires.places.free_count c.in_ok-heard.heard c.in_ok-heard.ensures
     c.max-ready.result (sym c.is_active.ensures ∙ c.if-not-is_active.true) ready_at)
@@ -117,13 +118,13 @@ start-start-requires-clause-process c = omega (
 -- what is known is that of a run with small times, so it is small
 pub start-start-requires-clause-small : goal.start-start-requires-clause-small
 start-start-requires-clause-small c =
-    let a = c.requires.setting.admitted in
-    let r = a_run c.args.setting.now.problem.now c.args.setting.now.order.now c.args.frozen.now c.args.scenario.now
-    c.requires.setting.topological in
-    known_small c.args.setting.now.problem.now c.args.setting.now.order.now r.0 c.args.place c.args.known.now
-    (c.requires.at r.0 r.1).knows c.requires.places.times c.requires.places.ends
-    (run_small c.args.setting.now.problem.now c.args.setting.now.order.now c.args.frozen.now c.args.scenario.now r.0
-    a.1.limits c.requires.setting.topological c.requires.scenario c.requires.early r.1)
+    let admitted = c.requires.setting.admitted in
+    let found_run = a_run c.args.setting.now.problem.now c.args.setting.now.order.now c.args.frozen.now
+    c.args.scenario.now c.requires.setting.topological in
+    known_small c.args.setting.now.problem.now c.args.setting.now.order.now found_run.0 c.args.place c.args.known.now
+    (c.requires.at found_run.0 found_run.1).knows c.requires.places.times c.requires.places.ends
+    (run_small c.args.setting.now.problem.now c.args.setting.now.order.now c.args.frozen.now c.args.scenario.now
+    found_run.0 admitted.1.limits c.requires.setting.topological c.requires.scenario c.requires.early found_run.1)
 
 -- the scenario has a fault count for each process
 pub fault-requires : goal.fault-requires
@@ -149,23 +150,24 @@ pub overflow_add-end : goal.overflow_add-end
 overflow_add-end c =
     let admitted = c.requires.setting.admitted in
     -- the run, whose times are small
-    let r = a_run c.args.setting.now.problem.now c.args.setting.now.order.now c.args.frozen.now c.args.scenario.now
-    c.requires.setting.topological in
-    let t = r.0 in
+    let found_run = a_run c.args.setting.now.problem.now c.args.setting.now.order.now c.args.frozen.now
+    c.args.scenario.now c.requires.setting.topological in
+    let t = found_run.0 in
     let run : IsRun c.args.setting.now.problem.now c.args.setting.now.order.now c.args.frozen.now
-    c.args.scenario.now t = r.1 in
+    c.args.scenario.now t = found_run.1 in
     let small = run_small c.args.setting.now.problem.now c.args.setting.now.order.now c.args.frozen.now
     c.args.scenario.now t admitted.1.limits c.requires.setting.topological c.requires.scenario
     c.requires.early run in
     -- the process and its node are of the graph
-    let l : c.at-process.result < process_count c.args.setting.now.problem.now =
+    let below : c.at-process.result < process_count c.args.setting.now.problem.now =
     omega (
       arith,
       c.at-process.ensures.within,
       length_order (process_count c.args.setting.now.problem.now) c.args.setting.now.order.now
           c.requires.setting.topological.all,
     ) in
-    let on : node_of c.args.setting.now.problem.now c.at-process.result < length c.args.setting.now.problem.now.nodes =
+    let node_below :
+    node_of c.args.setting.now.problem.now c.at-process.result < length c.args.setting.now.problem.now.nodes =
     omega (arith, c.node_of-node.ensures.node, c.node_of-node.ensures.within) in
     -- the node is ready when it has heard what decides the process
     let is_ready = node_read c.args.nodes.now.ready.items c.index.result.now c.node_of-node.result
@@ -179,8 +181,8 @@ overflow_add-end c =
       c.duration.ensures.short,
       small.times c.at-process.result,
       start_right c.args.setting.now.problem.now c.args.setting.now.order.now c.requires.setting.topological
-          c.args.frozen.now c.args.scenario.now t run c.args.place c.at-process.result l
-          c.at-process.ensures.back on
+          c.args.frozen.now c.args.scenario.now t run c.args.place c.at-process.result below
+          c.at-process.ensures.back node_below
           c.args.known.now c.args.nodes.now.ready.items c.args.nodes.now.free.items
           (c.requires.at t run) c.requires.places.ready_count c.requires.places.free_count c.in_ok-heard.heard
           c.in_ok-heard.ensures
@@ -221,14 +223,15 @@ send-requires-clause-process c = omega (
 pub send-requires-clause-can : goal.send-requires-clause-can
 send-requires-clause-can c t run =
     -- the process and its node are of the graph
-    let l : c.at-process.result < process_count c.args.setting.now.problem.now =
+    let below : c.at-process.result < process_count c.args.setting.now.problem.now =
     omega (
       arith,
       c.at-process.ensures.within,
       length_order (process_count c.args.setting.now.problem.now) c.args.setting.now.order.now
           c.requires.setting.topological.all,
     ) in
-    let on : node_of c.args.setting.now.problem.now c.at-process.result < length c.args.setting.now.problem.now.nodes =
+    let node_below :
+    node_of c.args.setting.now.problem.now c.at-process.result < length c.args.setting.now.problem.now.nodes =
     omega (arith, c.node_of-node.ensures.node, c.node_of-node.ensures.within) in
     -- the node is ready when it has heard what decides the process
     let is_ready = node_read c.args.nodes.now.ready.items c.index.result.now c.node_of-node.result
@@ -249,8 +252,8 @@ send-requires-clause-can c t run =
     (omega (arith, c.node_of-node.ensures.within, c.requires.places.free_count)) c.node_of-node.ensures.node in
     -- so the process can send
     can_send c.args.setting.now.problem.now c.args.setting.now.order.now c.requires.setting.topological
-    c.args.frozen.now c.args.scenario.now t run c.args.place c.at-process.result l
-    c.at-process.ensures.back on
+    c.args.frozen.now c.args.scenario.now t run c.args.place c.at-process.result below
+    c.at-process.ensures.back node_below
     c.args.known.now c.args.nodes.now.ready.items c.args.nodes.now.free.items (c.requires.at t run)
     c.requires.places.ready_count c.requires.places.free_count c.in_ok-heard.heard c.in_ok-heard.ensures
     acts c.max-ready.result c.start-start.result ready_at c.start-start.ensures
@@ -261,14 +264,15 @@ send-requires-clause-can c t run =
 pub returns-clause-at : goal.returns-clause-at
 returns-clause-at c t run =
     -- the process and its node are of the graph
-    let l : c.at-process.result < process_count c.args.setting.now.problem.now =
+    let below : c.at-process.result < process_count c.args.setting.now.problem.now =
     omega (
       arith,
       c.at-process.ensures.within,
       length_order (process_count c.args.setting.now.problem.now) c.args.setting.now.order.now
           c.requires.setting.topological.all,
     ) in
-    let on : node_of c.args.setting.now.problem.now c.at-process.result < length c.args.setting.now.problem.now.nodes =
+    let node_below :
+    node_of c.args.setting.now.problem.now c.at-process.result < length c.args.setting.now.problem.now.nodes =
     omega (arith, c.node_of-node.ensures.node, c.node_of-node.ensures.within) in
     -- the node is ready when it has heard what decides the process
     let is_ready = node_read c.args.nodes.now.ready.items c.index.result.now c.node_of-node.result
@@ -289,8 +293,8 @@ returns-clause-at c t run =
     (set c.args.nodes.now.ready.items n (c.start-start.result + c.duration.result))
     (set c.args.nodes.now.free.items n c.send.result)) (sym c.node_of-node.ensures.node)
     (at_active c.args.setting.now.problem.now c.args.setting.now.order.now c.requires.setting.topological
-    c.args.frozen.now c.args.scenario.now t run c.args.place c.at-process.result l
-    c.at-process.ensures.back on
+    c.args.frozen.now c.args.scenario.now t run c.args.place c.at-process.result below
+    c.at-process.ensures.back node_below
     c.args.known.now c.args.nodes.now.ready.items c.args.nodes.now.free.items (c.requires.at t run)
     c.requires.places.ready_count c.requires.places.free_count c.in_ok-heard.heard c.in_ok-heard.ensures
     acts c.max-ready.result c.start-start.result ready_at c.start-start.ensures

@@ -18,11 +18,11 @@ pub loop-edge-preserved : goal.loop-edge-preserved
 loop-edge-preserved c =
     let g = c.args.problem.now in
     let edges = c.args.edges.now in
-    let n = c.loop-edge.edge-index in
+    let place = c.loop-edge.edge-index in
     -- when an edge is there, 0 if it isn't live
     let there : ℕ → ℕ = λ e. if live g c.args.scenario.now.values e then input_there g c.args.known.now e else 0 in
     let later : c.max-latest.result ≡ max c.loop-edge.latest c.live_there.result = search rules in
     later ∙ ap₂ max c.loop-edge.invariant c.live_there.ensures
-    ∙ sym (ap (λ (es : List ℕ). greatest (map there es)) (take_more edges n 0 c.loop-edge-test.true)
-    ∙ ap greatest (map-append there (take n edges) (get_or edges n 0 ∷ []))
-    ∙ greatest_push (map there (take n edges)) (there (get_or edges n 0)))
+    ∙ sym (ap (λ (es : List ℕ). greatest (map there es)) (take_more edges place 0 c.loop-edge-test.true)
+    ∙ ap greatest (map-append there (take place edges) (get_or edges place 0 ∷ []))
+    ∙ greatest_push (map there (take place edges)) (there (get_or edges place 0)))

@@ -18,15 +18,15 @@ bounds-rows-item c = omega (arith, c.requires.item, long c.args.problem.now c.ar
 -- the row is the item's (`is`), and a writable row has times below 2 ^ 59
 pub later-requires-clause-times : goal.later-requires-clause-times
 later-requires-clause-times c =
-    let g = c.args.problem.now in
+    let problem = c.args.problem.now in
     let rows = c.args.rows.now in
-    let x = c.args.item in
-    let is : c.columns.result.now ≡ (row_for rows x).columns = c.columns.ensures ∙ ap (λ (row : Row). row.columns)
-    (c.index-rows-item.is ∙ get_or_default rows x c.index-rows-item.result no_row
-    (omega (arith, c.requires.item, long g rows c.requires.rows))) in
+    let item = c.args.item in
+    let is : c.columns.result.now ≡ (row_for rows item).columns = c.columns.ensures ∙ ap (λ (row : Row). row.columns)
+    (c.index-rows-item.is ∙ get_or_default rows item c.index-rows-item.result no_row
+    (omega (arith, c.requires.item, long problem rows c.requires.rows))) in
     subst (All (λ (e : Column). e.time < 2 ^ 59)) (sym is)
-    (All-weaker (IsWritable g) (λ (e : Column). e.time < 2 ^ 59) (λ e w. w.time) (row_for rows x).columns
-    (writable g rows c.requires.rows x c.requires.item))
+    (All-weaker (IsWritable problem) (λ (e : Column). e.time < 2 ^ 59) (λ e w. w.time) (row_for rows item).columns
+    (writable problem rows c.requires.rows item c.requires.item))
 
 -- the length of a slot is below 2 ^ 59 in a graph within the limits
 pub later-requires-clause-delay : goal.later-requires-clause-delay
@@ -41,13 +41,13 @@ same_row x a b e = cc
 -- the row that is made is that of the item, later by the sender's slot
 pub returns : goal.returns
 returns c =
-    let g = c.args.problem.now in
+    let problem = c.args.problem.now in
     let rows = c.args.rows.now in
-    let x = c.args.item in
-    let is : c.columns.result.now ≡ (row_for rows x).columns = c.columns.ensures ∙ ap (λ (row : Row). row.columns)
-    (c.index-rows-item.is ∙ get_or_default rows x c.index-rows-item.result no_row
-    (omega (arith, c.requires.item, long g rows c.requires.rows))) in
+    let item = c.args.item in
+    let is : c.columns.result.now ≡ (row_for rows item).columns = c.columns.ensures ∙ ap (λ (row : Row). row.columns)
+    (c.index-rows-item.is ∙ get_or_default rows item c.index-rows-item.result no_row
+    (omega (arith, c.requires.item, long problem rows c.requires.rows))) in
     c.new.ensures
-    ∙ same_row x c.in_ok-columns.columns.items (map (later_by (slot_length g (home g x))) (row_for rows x).columns)
-    (c.in_ok-columns.ensures
-    ∙ ap₂ (λ d cs. map (later_by d) cs) (c.slot_length-delay.ensures ∙ ap (slot_length g) c.home.ensures.home) is)
+    ∙ same_row item c.in_ok-columns.columns.items (map (later_by (slot_length problem (home problem item)))
+    (row_for rows item).columns) (c.in_ok-columns.ensures
+    ∙ ap₂ (λ d cs. map (later_by d) cs) (c.slot_length-delay.ensures ∙ ap (slot_length problem) c.home.ensures.home) is)

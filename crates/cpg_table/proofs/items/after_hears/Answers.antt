@@ -12,7 +12,8 @@ returns-in_default c = search (rules, after_neither)
 -- the broadcasts of the other nodes come after the messages to this one
 pub returns : goal.returns
 returns c =
-    let h = c.args.head.now in
-    c.after_broadcasts.ensures ∙ sym (after_both (numbers_where (enters h c.args.node) (first_message h) h.edges)
-    (numbers_where (λ p. not (p.node == c.args.node)) (first_broadcast h) (conditioned h)) c.args.rows.now
+    let head = c.args.head.now in
+    c.after_broadcasts.ensures
+    ∙ sym (after_both (numbers_where (enters head c.args.node) (first_message head) head.edges)
+    (numbers_where (λ p. not (p.node == c.args.node)) (first_broadcast head) (conditioned head)) c.args.rows.now
     c.in-Some.rest.now c.in-Some.ensures)

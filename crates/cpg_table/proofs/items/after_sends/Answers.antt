@@ -13,11 +13,11 @@ returns-in_default c = search (rules, after_neither)
 -- with more than one node the broadcasts come after the messages
 pub returns-then-nodes-gt1 : goal.returns-then-nodes-gt1
 returns-then-nodes-gt1 c =
-    let h = c.args.head.now in
-    let broadcasts = numbers_where (λ p. p.node == c.args.node) (first_broadcast h) (conditioned h) in
-    let two : 1 < length h.nodes = omega (arith, ap length c.nodes.ensures.nodes) in
+    let head = c.args.head.now in
+    let broadcasts = numbers_where (λ p. p.node == c.args.node) (first_broadcast head) (conditioned head) in
+    let two : 1 < length head.nodes = omega (arith, ap length c.nodes.ensures.nodes) in
     c.after_broadcasts.ensures
     ∙ ap (λ xs. after_items xs c.in-Some.rest.now)
-    (sym (cond-true (ltb 1 (length h.nodes)) broadcasts [] (lt-ltb 1 (length h.nodes) two)))
-    ∙ sym (after_both (numbers_where (leaves h c.args.node) (first_message h) h.edges)
-    (cond (ltb 1 (length h.nodes)) broadcasts []) c.args.rows.now c.in-Some.rest.now c.in-Some.ensures)
+    (sym (cond-true (ltb 1 (length head.nodes)) broadcasts [] (lt-ltb 1 (length head.nodes) two)))
+    ∙ sym (after_both (numbers_where (leaves head c.args.node) (first_message head) head.edges)
+    (cond (ltb 1 (length head.nodes)) broadcasts []) c.args.rows.now c.in-Some.rest.now c.in-Some.ensures)

@@ -9,14 +9,14 @@ use Rattle.cpg_table.proofs.tables.are_tables_of.Goals as goal
 -- this table is that of its node, as are those before it
 pub loop-table-preserved : goal.loop-table-preserved
 loop-table-preserved c =
-    let h = c.args.head.now in
+    let head = c.args.head.now in
     let ts = c.args.nodes.now in
-    let i = c.loop-table.table-index in
+    let index = c.loop-table.table-index in
     record {
       counted = omega (arith, c.loop-table.invariant.counted);
-      each = below_more (λ k. IsTableOf h k (table_at ts k)) i c.loop-table.invariant.each
-          (subst (λ k. IsTableOf h k (table_at ts i)) c.loop-table.invariant.counted
-          (subst (IsTableOf h c.loop-table.node)
-          (c.table-item.is ∙ get_or_default ts i c.table-item.result empty_table c.loop-table-test.true)
+      each = below_more (λ k. IsTableOf head k (table_at ts k)) index c.loop-table.invariant.each
+          (subst (λ k. IsTableOf head k (table_at ts index)) c.loop-table.invariant.counted
+          (subst (IsTableOf head c.loop-table.node)
+          (c.table-item.is ∙ get_or_default ts index c.table-item.result empty_table c.loop-table-test.true)
           (c.is_table_of.ensures.0 c.if-not-is_table_of.false)));
     }

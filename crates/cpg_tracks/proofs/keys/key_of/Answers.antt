@@ -8,9 +8,9 @@ use Rattle.cpg_tracks.proofs.keys.key_of.Goals as goal
 -- an input of the process is an edge of the graph
 pub source-requires : goal.source-requires
 source-requires c =
-    let g = c.args.problem.now in
-    let xs = c.inputs-edge-items.result.now in
-    let e = get_or xs c.loop-edge.edge-index 0 in
-    (inputs_parts g c.args.process e
-    (subst (λ ys. Contains ys e) (c.inputs-edge-items.ensures.of_graph g c.requires.links)
-    (Contains-get_or xs c.loop-edge.edge-index 0 c.loop-edge-test.true))).0
+    let graph = c.args.problem.now in
+    let edges = c.inputs-edge-items.result.now in
+    let edge = get_or edges c.loop-edge.edge-index 0 in
+    (inputs_parts graph c.args.process edge
+    (subst (λ ys. Contains ys edge) (c.inputs-edge-items.ensures.of_graph graph c.requires.links)
+    (Contains-get_or edges c.loop-edge.edge-index 0 c.loop-edge-test.true))).0

@@ -9,20 +9,20 @@ use Rattle.cpg_tracks.proofs.order.merged_order.Goals as goal
 -- there are no more keys than processes, at most 128
 pub by_key-requires : goal.by_key-requires
 by_key-requires c =
-    let g = c.args.admitted.now.graph in
+    let graph = c.args.admitted.now.graph in
     let by = rw (c.as_slice-2.ensures.value, c.problem-problem.ensures.problem) at c.in_ok-keys.ensures in
     omega (
       arith,
       ap length c.as_slice-3.ensures.value,
-      keys_long g c.in_ok-schedules.schedules.items c.in_ok-keys.keys.items by,
+      keys_long graph c.in_ok-schedules.schedules.items c.in_ok-keys.keys.items by,
       c.problem-problem.ensures.admitted.limits.few_processes,
     )
 
 -- the processes by key are the track order, which is topological, so `ordered` doesn't refuse it
 pub unreachable-requires : goal.unreachable-requires
 unreachable-requires c =
-    let g = c.args.admitted.now.graph in
-    let order : HasTrackOrder g c.in_ok-processes.processes.items = has_order g c.in-Some.tracks.items
+    let graph = c.args.admitted.now.graph in
+    let order : HasTrackOrder graph c.in_ok-processes.processes.items = has_order graph c.in-Some.tracks.items
     c.in_ok-schedules.schedules.items c.in_ok-keys.keys.items c.in_ok-processes.processes.items
     (rw c.in-Some.is at c.in_ok-tracks.ensures.tracks)
     (rw c.as_slice.ensures.value at c.in_ok-schedules.ensures.greedy)
@@ -31,7 +31,7 @@ unreachable-requires c =
     (rw c.as_slice-3.ensures.value at c.in_ok-processes.ensures.rising) in
     let refused = rw c.in_default-2.is at c.in_ok-order.ensures.refused in
     refused (subst₂ IsTopological (sym c.problem-problem.ensures.problem) (sym c.as_slice-4.ensures.value)
-    (order_of_tracks_topological g c.problem-problem.ensures.admitted.well_formed
+    (order_of_tracks_topological graph c.problem-problem.ensures.admitted.well_formed
     c.in_ok-processes.processes.items order))
 
 -- the processes by key are the track order

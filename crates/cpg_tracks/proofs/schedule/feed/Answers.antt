@@ -17,8 +17,8 @@ returns-then-not-index c =
     let is = c.index.ensures ∙ active_is c.args.problem.now c.args.timing.now c.requires.timing c.args.process
     c.index.result.now c.requires.process in
     feeds_none c.args.problem.now (outcome_of c.args.timing.now) c.args.starts.now c.args.process c.args.fed.now.items
-    (λ f. both_ways (active c.args.problem.now (outcome_of c.args.timing.now) c.args.process)
-    (sym is ∙ c.if-not-index.true) f.active)
+    (λ fed. both_ways (active c.args.problem.now (outcome_of c.args.timing.now) c.args.process)
+    (sym is ∙ c.if-not-index.true) fed.active)
 
 -- the mark of the process is true, and the marks say which processes are active
 pub ready_time-requires-clause-active : goal.ready_time-requires-clause-active
@@ -29,8 +29,8 @@ ready_time-requires-clause-active c =
 -- a process that is ready can be placed, and is added
 pub returns-in_ok-push : goal.returns-in_ok-push
 returns-in_ok-push c =
-    let o = outcome_of c.args.timing.now in
-    subst (Feeds c.args.problem.now o c.args.starts.now c.args.process c.args.fed.now.items)
+    let outcome = outcome_of c.args.timing.now in
+    subst (Feeds c.args.problem.now outcome c.args.starts.now c.args.process c.args.fed.now.items)
     (sym c.in_ok-push.ensures.items)
-    (feeds_one c.args.problem.now o c.args.starts.now c.args.process c.in-Some.ready c.args.fed.now.items
+    (feeds_one c.args.problem.now outcome c.args.starts.now c.args.process c.in-Some.ready c.args.fed.now.items
     c.in-Some.ensures.fed c.in-Some.ensures.ready)

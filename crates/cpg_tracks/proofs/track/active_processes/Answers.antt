@@ -7,8 +7,8 @@ use Rattle.cpg_tracks.proofs.track.active_processes.Goals.{then-active+in_ok-pus
 
 -- an active process is listed, and an inactive one is passed over
 pub loop-process-preserved : goal.loop-process-preserved
-loop-process-preserved c = let a = c.requires.admitted in
-    let is = sym (c.active.ensures.active c.args.problem.now a.0 a.1.guards) in
+loop-process-preserved c = let admitted = c.requires.admitted in
+    let is = sym (c.active.ensures.active c.args.problem.now admitted.0 admitted.1.guards) in
     elim c.if-active.branch [
       -- the process is active: it is added
       | then-active+in_ok-push w ↦ filter_below_takes (active c.args.problem.now c.args.scenario.now.values)

@@ -1,4 +1,4 @@
--- Loops of `both_ways`: returns the outcomes that come of these if the condition is chosen too: of each one or two,
+-- Loops of `both_ways`: returns the outcomes that come of these if the condition is chosen too: one or two of each,
 -- false before true.
 use Rattle.std.proofs.Common.{◌≡◌, All, take}
 use Rattle.std.specs.List.{flat_map}

@@ -25,16 +25,16 @@ condition_of-requires c =
 -- there are too many outcomes already, and the conditions that are left make no fewer
 pub returns-then-len-gt-MOST_SCHEDULED_TRACKS-clause-many : goal.returns-then-len-gt-MOST_SCHEDULED_TRACKS-clause-many
 returns-then-len-gt-MOST_SCHEDULED_TRACKS-clause-many c =
-    let g = c.args.problem.now in
+    let graph = c.args.problem.now in
     let order = c.args.order.now in
     let same = c.processes-process-items.ensures.processes in
-    let at = ap (λ xs. condition_of g (get_or xs c.loop-process.process-index 0)) same in
+    let at = ap (λ xs. condition_of graph (get_or xs c.loop-process.process-index 0)) same in
     -- the outcomes are those with the condition chosen too
-    let walked = walk_takes g order c.loop-process.process-index c.in-Some.condition c.loop-process.scenarios.items
+    let walked = walk_takes graph order c.loop-process.process-index c.in-Some.condition c.loop-process.scenarios.items
     c.in_ok-scenarios.scenarios.items
     (omega (arith, ap length same, c.loop-process-test.true)) (sym at ∙ sym c.in-Some.ensures)
     c.loop-process.invariant.walked (rw c.as_slice.ensures.value at c.in_ok-scenarios.ensures.ways) in
-    stopped_at g order c.requires.urgency c.requires.topological (c.loop-process.process-index + 1)
+    stopped_at graph order c.requires.urgency c.requires.topological (c.loop-process.process-index + 1)
     (omega (
       arith,
       c.if-len-gt-MOST_SCHEDULED_TRACKS.true,
@@ -46,29 +46,30 @@ returns-then-len-gt-MOST_SCHEDULED_TRACKS-clause-many c =
 -- the condition of one more process is chosen; a process without one leaves the outcomes as they are
 pub loop-process-preserved : goal.loop-process-preserved
 loop-process-preserved c =
-    let g = c.args.problem.now in
+    let graph = c.args.problem.now in
     let order = c.args.order.now in
     let same = c.processes-process-items.ensures.processes in
-    let at = ap (λ xs. condition_of g (get_or xs c.loop-process.process-index 0)) same in
+    let at = ap (λ xs. condition_of graph (get_or xs c.loop-process.process-index 0)) same in
     let inside : c.loop-process.process-index < length order =
     omega (arith, ap length same, c.loop-process-test.true) in
     elim c.match-condition_of.branch [
       -- the process has a condition: each outcome goes both ways if the process is active in it
       | in-Some+in_ok-scenarios+else-len-gt-MOST_SCHEDULED_TRACKS w ↦ let is = ap (λ v. v.items) w.scenarios-is in record {
-        walked = ap outcomes_of is ∙ walk_takes g order c.loop-process.process-index w.in-Some.condition
+        walked = ap outcomes_of is ∙ walk_takes graph order c.loop-process.process-index w.in-Some.condition
             c.loop-process.scenarios.items w.in_ok-scenarios.scenarios.items inside
             (sym at ∙ sym w.in-Some.ensures)
             c.loop-process.invariant.walked (rw w.as_slice.ensures.value at w.in_ok-scenarios.ensures.ways);
-        values = subst (All (HasValues g)) (sym is) w.in_ok-scenarios.ensures.values;
+        values = subst (All (HasValues graph)) (sym is) w.in_ok-scenarios.ensures.values;
         few = omega (arith, ap length is, w.if-len-gt-MOST_SCHEDULED_TRACKS.false, w.len.ensures);
       }
       -- it has none: the outcomes stay
       | in_default w ↦ let is = ap (λ v. v.items) w.scenarios-is in record {
         walked =
-            ap outcomes_of is ∙ walk_skips g order c.loop-process.process-index c.loop-process.scenarios.items inside
+            ap outcomes_of is ∙ walk_skips graph order c.loop-process.process-index c.loop-process.scenarios.items
+            inside
             (sym at ∙ sym c.condition_of.ensures ∙ none_if c.condition_of.result w.in_default.not-Some)
             c.loop-process.invariant.walked;
-        values = subst (All (HasValues g)) (sym is) c.loop-process.invariant.values;
+        values = subst (All (HasValues graph)) (sym is) c.loop-process.invariant.values;
         few = omega (arith, ap length is, c.loop-process.invariant.few);
       }
     ]
@@ -76,10 +77,10 @@ loop-process-preserved c =
 -- all conditions have been visited, so the outcomes are the tracks
 pub returns-clause-tracks : goal.returns-clause-tracks
 returns-clause-tracks c =
-    let g = c.args.problem.now in
+    let graph = c.args.problem.now in
     let order = c.args.order.now in
     let done = take_all c.loop-process.process-index order
     (omega (arith, ap length c.processes-process-items.ensures.processes, c.loop-process-test.false)) in
-    subst (AreTracks g) (sym (c.loop-process.invariant.walked
-    ∙ ap (λ xs. tracks_over g (conditions_along g xs) (all_false g ∷ [])) done))
-    (walk_finds_tracks g order c.requires.urgency c.requires.topological)
+    subst (AreTracks graph) (sym (c.loop-process.invariant.walked
+    ∙ ap (λ xs. tracks_over graph (conditions_along graph xs) (all_false graph ∷ [])) done))
+    (walk_finds_tracks graph order c.requires.urgency c.requires.topological)

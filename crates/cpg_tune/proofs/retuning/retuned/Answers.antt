@@ -33,7 +33,7 @@ of-retuned-requires c =
 pub with_order-requires : goal.with_order-requires
 with_order-requires c =
     -- the retuned graph, still without its order
-    let g = c.args.problem.now in
+    let graph = c.args.problem.now in
     let made : Graph = record {
       faults = c.args.faults;
       deadline = c.deadline.result;
@@ -44,12 +44,12 @@ with_order-requires c =
       edges = c.in_ok-edges.edges.items;
       order = None;
     } in
-    let is : made ≡ record (retuned g c.args.parts.now c.args.faults) { order = None } = search rules in
-    let count : process_count c.of-retuned.result ≡ process_count (retuned g c.args.parts.now c.args.faults) =
+    let is : made ≡ record (retuned graph c.args.parts.now c.args.faults) { order = None } = search rules in
+    let count : process_count c.of-retuned.result ≡ process_count (retuned graph c.args.parts.now c.args.faults) =
     ap process_count (c.of-retuned.ensures ∙ is) in
     -- the order fits as many processes as before
     let whole =
-    retuned_within g c.args.parts.now c.args.faults c.nodes.ensures.within c.requires.parts c.requires.faults in
+    retuned_within graph c.args.parts.now c.args.faults c.nodes.ensures.within c.requires.parts c.requires.faults in
     subst (λ n. IfSome c.in_ok-order.order (λ list. IsOrderWithin n list.items)) (sym count)
-    (of_view (λ list. list.items) (IsOrderWithin (process_count (retuned g c.args.parts.now c.args.faults)))
-    c.in_ok-order.order g.order c.in_ok-order.ensures whole.order)
+    (of_view (λ list. list.items) (IsOrderWithin (process_count (retuned graph c.args.parts.now c.args.faults)))
+    c.in_ok-order.order graph.order c.in_ok-order.ensures whole.order)

@@ -26,10 +26,10 @@ least_at-earlier-requires-clause-order t c =
 -- each scenario goes to one side of the test, so the earlier of the answers of the two sides is the least of all
 pub least_at-returns-in_ok-second-in-Test : goal.least_at-returns-in_ok-second-in-Test
 least_at-returns-in_ok-second-in-Test t c =
-    let g = c.args.admitted.now.graph in
+    let graph = c.args.admitted.now.graph in
     let by = map seen c.args.by.now in
     rw (c.earlier.ensures, c.in-Test.ensures, c.problem-problem.ensures.problem, c.order-order.ensures.order)
-    (at_test g c.args.admitted.now.order by c.args.wanted c.args.cube.now c.in-Test.condition c.in-Test.no.now
+    (at_test graph c.args.admitted.now.order by c.args.wanted c.args.cube.now c.in-Test.condition c.in-Test.no.now
     c.in-Test.yes.now c.in_ok-first-in-Test.first c.in_ok-second-in-Test.second
     (rw c.value_literal-off.ensures at c.in_ok-first-in-Test.ensures)
     (rw c.value_literal-on.ensures at c.in_ok-second-in-Test.ensures))
@@ -37,10 +37,11 @@ least_at-returns-in_ok-second-in-Test t c =
 -- the cube stays on variables of the graph when the literal narrows it
 pub least_where-least_at-requires : goal.least_where-least_at-requires
 least_where-least_at-requires t c =
-    let g = c.args.admitted.now.graph in
+    let graph = c.args.admitted.now.graph in
     let some : with_literal c.args.literal c.args.cube.now ≡ Some c.in-Some.part = search rules in
-    let part : IsKnown g c.in-Some.part = subst (IsKnown g) (with-is c.args.literal c.args.cube.now c.in-Some.part some)
-    (known-narrowed g c.args.literal c.args.cube.now c.requires.literal c.requires.cube) in
+    let part : IsKnown graph c.in-Some.part =
+    subst (IsKnown graph) (with-is c.args.literal c.args.cube.now c.in-Some.part some)
+    (known-narrowed graph c.args.literal c.args.cube.now c.requires.literal c.requires.cube) in
     (search rules, (c.requires.tree, (part, c.requires.list)))
 
 -- `least_at` was asked of the part, which has exactly the scenarios of the cube in which the literal holds

@@ -10,9 +10,10 @@ use Rattle.cpg_violation.proofs.guards.is_edge_running.Goals as goal
 -- the source is active and has the value in the whole space, so the edge is live
 pub returns : goal.returns
 returns c =
-    let g = c.args.admitted.now.graph in
-    let e = c.args.edge in
-    of_true c.is_running.result c.is_running.ensures (λ on s law lies.
-    both_there (active g s.values (source g e)) (takes (edge_at g e).when (value_of g s.values (source g e)))
-    (rw (c.source.ensures.source, c.problem-problem.ensures.problem) at (on s law lies))
+    let graph = c.args.admitted.now.graph in
+    let edge = c.args.edge in
+    of_true c.is_running.result c.is_running.ensures (λ on s lawful lies.
+    both_there (active graph s.values (source graph edge))
+    (takes (edge_at graph edge).when (value_of graph s.values (source graph edge)))
+    (rw (c.source.ensures.source, c.problem-problem.ensures.problem) at (on s lawful lies))
     (rw c.problem-problem.ensures.problem at (OnTrue_at c.if-not-is_taken.false c.is_taken.ensures s lies)))

@@ -8,15 +8,16 @@ use Rattle.cpg_violation.proofs.guards.is_item_running.Goals as goal
 -- the item is active exactly if its process is, and the process is running
 pub returns-in-Process : goal.returns-in-Process
 returns-in-Process c =
-    let g = c.args.admitted.now.graph in
-    let active = as_source g c.args.item c.item_source.result (ItemSource.Process c.in-Process.process)
+    let graph = c.args.admitted.now.graph in
+    let active = as_source graph c.args.item c.item_source.result (ItemSource.Process c.in-Process.process)
     (rw c.problem.ensures.problem at c.item_source.ensures.active) c.in-Process.is in
-    of_true c.is_running.result c.is_running.ensures (λ told s law lies. active s.values ∙ told s law lies)
+    of_true c.is_running.result c.is_running.ensures (λ told s lawful lies. active s.values ∙ told s lawful lies)
 
 -- the item is active exactly if its edge is live, and the edge is running
 pub returns-in-Edge : goal.returns-in-Edge
 returns-in-Edge c =
-    let g = c.args.admitted.now.graph in
-    let active = as_source g c.args.item c.item_source.result (ItemSource.Edge c.in-Edge.edge)
+    let graph = c.args.admitted.now.graph in
+    let active = as_source graph c.args.item c.item_source.result (ItemSource.Edge c.in-Edge.edge)
     (rw c.problem.ensures.problem at c.item_source.ensures.active) c.in-Edge.is in
-    of_true c.is_edge_running.result c.is_edge_running.ensures (λ told s law lies. active s.values ∙ told s law lies)
+    of_true c.is_edge_running.result c.is_edge_running.ensures
+    (λ told s lawful lies. active s.values ∙ told s lawful lies)

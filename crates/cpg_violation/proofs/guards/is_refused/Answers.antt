@@ -8,10 +8,11 @@ use Rattle.cpg_violation.proofs.guards.is_refused.Goals as goal
 -- the space implies the literal of the other value, so the edge's value isn't there
 pub returns : goal.returns
 returns c =
-    let g = c.args.problem.now in
-    let is : condition_of g (source g c.args.edge) ≡ Some c.in-Some-condition_of.condition =
+    let graph = c.args.problem.now in
+    let is : condition_of graph (source graph c.args.edge) ≡ Some c.in-Some-condition_of.condition =
     rw c.edge_of-edge.ensures.edge at (sym c.condition_of.ensures ∙ c.in-Some-condition_of.is) in
-    let asks : (edge_at g c.args.edge).when ≡ Some c.in-Some.value = rw c.edge_of-edge.ensures.edge at c.in-Some.is in
+    let asks : (edge_at graph c.args.edge).when ≡ Some c.in-Some.value =
+    rw c.edge_of-edge.ensures.edge at c.in-Some.is in
     of_true c.implies.result c.implies.ensures
-    (λ told s lies. refused_of g s (source g c.args.edge) c.in-Some-condition_of.condition
-    (edge_at g c.args.edge).when c.in-Some.value is asks (rw c.value_literal.ensures at (told s lies)))
+    (λ told s lies. refused_of graph s (source graph c.args.edge) c.in-Some-condition_of.condition
+    (edge_at graph c.args.edge).when c.in-Some.value is asks (rw c.value_literal.ensures at (told s lies)))

@@ -23,5 +23,5 @@ pub returns : goal.returns
 returns c =
     let tree : c.guard_of.result.now ≡ tree_of c.args.admitted.now.guards c.args.process =
     c.guard_of.ensures.tree ∙ ap (λ guards. tree_of guards c.args.process) c.guards.ensures.guards in
-    of_true c.is_never.result c.is_never.ensures (λ never s law lies.
-    running_of c.guards.ensures.admitted c.args.process c.requires s law (rw tree at (never s lies)))
+    of_true c.is_never.result c.is_never.ensures (λ never s lawful lies.
+    running_of c.guards.ensures.admitted c.args.process c.requires s lawful (rw tree at (never s lies)))

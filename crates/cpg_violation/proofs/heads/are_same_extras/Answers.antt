@@ -6,7 +6,7 @@ use Rattle.cpg_head.specs.Head.{AreExtras}
 use Rattle.cpg_violation.proofs.ExtraLists.{extras_more, extras_whole}
 use Rattle.cpg_violation.proofs.heads.are_same_extras.Goals as goal
 
--- the next process has what the head says of it, so one process more has
+-- the next process has what the head says of it, so this is so of one process more
 pub loop-process-preserved : goal.loop-process-preserved
 loop-process-preserved c =
     extras_more c.args.problem.now.processes c.loop-process.process c.in-Some.extra.now c.index-processes-process.result

@@ -8,19 +8,19 @@ use Rattle.cpg_violation.proofs.longest.longest.Goals as goal
 
 -- the process has no more faults than the space allows, and with fewer it takes no longer
 pub returns-clause-most : goal.returns-clause-most
-returns-clause-most c s law lies =
-    let g = c.args.problem.now in
-    let p = c.args.process in
+returns-clause-most c s lawful lies =
+    let graph = c.args.problem.now in
+    let process = c.args.process in
     let few = c.faults-faults.ensures.within.few_processes in
-    let short : p < 128 = omega (arith, few, c.requires) in
+    let short : process < 128 = omega (arith, few, c.requires) in
     -- the scenario gives the process at most the faults that the space allows
-    let faults : fault_of s p ≤ c.min.result =
+    let faults : fault_of s process ≤ c.min.result =
     omega (
       arith,
-      fault_within g few p c.requires s law,
-      number_of-fault s p short,
+      fault_within graph few process c.requires s lawful,
+      number_of-fault s process short,
       c.most-most.ensures s lies,
       c.min.ensures,
       c.faults-faults.ensures.faults,
     ) in
-    omega (arith, c.duration.ensures.duration, duration_grows g p (fault_of s p) c.min.result faults)
+    omega (arith, c.duration.ensures.duration, duration_grows graph process (fault_of s process) c.min.result faults)

@@ -14,9 +14,12 @@ loop-item-preserved g c =
       marked_push passes c.loop-item.item c.loop-item.marks.items c.loop-item.invariant.0 c.loop-item.invariant.1
           c.test.result
           (OnTrue_from c.test.result (passes c.loop-item.item)
-          (λ e. (c.loop-item-test.true, subst (λ b. goal.F-post g c.args.test c.loop-item.item b) e c.test.ensures))),
+          (λ passed. (
+            c.loop-item-test.true,
+            subst (λ b. goal.F-post g c.args.test c.loop-item.item b) passed c.test.ensures,
+          ))),
     )
 
 -- at the end each mark that is set is right
 pub returns : goal.returns
-returns g c x e = c.loop-item.invariant.1 x e
+returns g c x marked = c.loop-item.invariant.1 x marked

@@ -9,7 +9,7 @@ returns-in_err-least-clause-room c =
     let lawful : IsScenario c.args.problem.now c.meets.new.least = (c.if-not-meets.ensures.least []).lawful in
     record { values = lawful.values; faults = lawful.faults }
 
--- so it has if it was copied
+-- the scenario that was written still has this room after it was copied
 pub returns-clause-room : goal.returns-clause-room
 returns-clause-room c =
     let lawful : IsScenario c.args.problem.now c.meets.new.least = (c.if-not-meets.ensures.least []).lawful in

@@ -18,18 +18,19 @@ Ends g p d = (s : Scenario) → IsScenario g s → matches d.cube s ≡ true →
 -- even the longest execution from the next column ends by the due
 pub loop-column-preserved-then-saturating_add-due : goal.loop-column-preserved-then-saturating_add-due
 loop-column-preserved-then-saturating_add-due c =
-    let g = c.args.problem.now in
-    let p = c.args.process in
+    let graph = c.args.problem.now in
+    let process = c.args.process in
     -- the sum didn't saturate, as a due is far below the greatest number
-    let end : c.column-item.result.time + c.longest-most.result ≤ c.due-due.result = by_due g c.faults.ensures.within p
+    let end : c.column-item.result.time + c.longest-most.result ≤ c.due-due.result =
+    by_due graph c.faults.ensures.within process
     (c.column-item.result.time + c.longest-most.result) c.saturating_add.result c.due-due.result
     c.saturating_add.ensures c.due-due.ensures c.if-saturating_add-due.true in
-    each_more (Ends g p) c.args.columns.now c.loop-column.column-index c.column-item.result c.loop-column-test.true
-    c.column-item.is c.loop-column.invariant
-    (λ s law m. omega (
+    each_more (Ends graph process) c.args.columns.now c.loop-column.column-index c.column-item.result
+    c.loop-column-test.true c.column-item.is c.loop-column.invariant
+    (λ s lawful matched. omega (
       arith,
-      c.longest-most.ensures.most s law
-          (c.whole.ensures.lies s (few_of g c.faults.result c.faults.ensures.faults s law)),
+      c.longest-most.ensures.most s lawful
+          (c.whole.ensures.lies s (few_of graph c.faults.result c.faults.ensures.faults s lawful)),
       end,
       c.due-due.ensures,
     ))

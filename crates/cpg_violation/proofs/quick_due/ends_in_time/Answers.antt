@@ -8,21 +8,22 @@ use Rattle.cpg_violation.proofs.quick_due.ends_in_time.Goals as goal
 
 -- the column has no space, so no scenario of the graph matches it
 pub returns-in_default : goal.returns-in_default
-returns-in_default c s law m =
-    absurd (not_none c.args.problem.now c.faults.result c.faults.ensures.faults s law c.args.column.now.cube
-    c.literals.result.now c.literals.ensures.literals m c.of.result c.in_default.is
+returns-in_default c s lawful matched =
+    absurd (not_none c.args.problem.now c.faults.result c.faults.ensures.faults s lawful c.args.column.now.cube
+    c.literals.result.now c.literals.ensures.literals matched c.of.result c.in_default.is
     c.of.ensures.none)
 
 -- a scenario that the column matches lies in the space, where the longest execution ends by the due
 pub returns : goal.returns
-returns c = on_le c.saturating_add-end.result c.due.result (λ e s law m.
-    let g = c.args.problem.now in
-    let p = c.args.process in
+returns c = on_le c.saturating_add-end.result c.due.result (λ by_due_test s lawful matched.
+    let graph = c.args.problem.now in
+    let process = c.args.process in
     -- the scenario lies in the space, and the sum didn't saturate, as a due is far below the greatest number
-    let lies = lies_in g c.faults.result c.faults.ensures.faults s law c.args.column.now.cube c.literals.result.now
-    c.literals.ensures.literals m c.of.result c.in-Some.space c.in-Some.is
+    let lies = lies_in graph c.faults.result c.faults.ensures.faults s lawful c.args.column.now.cube
+    c.literals.result.now
+    c.literals.ensures.literals matched c.of.result c.in-Some.space c.in-Some.is
     c.of.ensures.lies in
-    let end : c.args.column.now.time + c.longest.result ≤ c.due.result = by_due g c.faults.ensures.within p
+    let end : c.args.column.now.time + c.longest.result ≤ c.due.result = by_due graph c.faults.ensures.within process
     (c.args.column.now.time + c.longest.result) c.saturating_add-end.result c.due.result c.saturating_add-end.ensures
-    c.due.ensures e in
-    omega (arith, c.longest.ensures.most s law lies, end, c.due.ensures))
+    c.due.ensures by_due_test in
+    omega (arith, c.longest.ensures.most s lawful lies, end, c.due.ensures))

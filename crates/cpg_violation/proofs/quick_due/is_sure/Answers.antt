@@ -11,9 +11,9 @@ use Rattle.cpg_violation.proofs.quick_due.is_sure.Goals as goal
 -- all columns of the item end by the due, so it keeps V9
 pub returns : goal.returns
 returns c =
-    let g = c.args.problem.now in
-    let p = c.args.item in
+    let graph = c.args.problem.now in
+    let process = c.args.item in
     of_true c.all_end_in_time.result c.all_end_in_time.ensures
-    (λ all. due_sure g c.args.tables.now.nodes p
-    (subst (λ xs. All (λ (d : Column). (s : Scenario) → IsScenario g s → matches d.cube s ≡ true →
-    d.time + duration g p (fault_of s p) ≤ due g p) xs) c.columns_of.ensures.columns all))
+    (λ all. due_sure graph c.args.tables.now.nodes process
+    (subst (λ xs. All (λ (d : Column). (s : Scenario) → IsScenario graph s → matches d.cube s ≡ true →
+    d.time + duration graph process (fault_of s process) ≤ due graph process) xs) c.columns_of.ensures.columns all))

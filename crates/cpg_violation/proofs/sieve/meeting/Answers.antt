@@ -8,9 +8,9 @@ use Rattle.cpg_violation.proofs.sieve.meeting.Goals.{then-column_may_meet+in_ok-
 pub loop-place-preserved : goal.loop-place-preserved
 loop-place-preserved c = elim c.if-column_may_meet.branch [
   | then-column_may_meet+in_ok-push w ↦
-      let e : c.if-column_may_meet.kept.items ≡ c.loop-place.kept.items
+      let kept_is : c.if-column_may_meet.kept.items ≡ c.loop-place.kept.items
       ++ get_or c.args.places.now c.loop-place.place-index 0 ∷ [] = search rules in
-      rw e (meets_push c.args.columns.now c.args.cube.now c.args.places.now c.loop-place.kept.items
+      rw kept_is (meets_push c.args.columns.now c.args.cube.now c.args.places.now c.loop-place.kept.items
       c.loop-place.place-index 0 c.loop-place-test.true c.loop-place.invariant)
   | else-column_may_meet w ↦ rw w.kept-is (meets_skip c.args.columns.now c.args.cube.now c.args.places.now
       c.loop-place.kept.items c.loop-place.place-index 0 c.loop-place-test.true

@@ -6,7 +6,7 @@ use Rattle.cpg_violation.proofs.sieve.places_of.Goals as goal
 
 -- the next place was added after those before
 pub loop-place-preserved : goal.loop-place-preserved
-loop-place-preserved c = λ i l. rw c.in_ok-push.ensures.items (elim (cases_lt i c.loop-place.place) [
+loop-place-preserved c = λ i below. rw c.in_ok-push.ensures.items (elim (cases_lt i c.loop-place.place) [
   | inl lt ↦ Contains-append_left c.loop-place.places.items (c.loop-place.place ∷ []) i (c.loop-place.invariant i lt)
   | inr ge ↦ let same : c.loop-place.place ≡ i = omega arith in
       subst (λ j. Contains (c.loop-place.places.items ++ c.loop-place.place ∷ []) j) same

@@ -9,9 +9,9 @@ use Rattle.cpg_violation.proofs.sieve.places_on_side.Goals.{then-column_goes+in_
 pub loop-place-preserved : goal.loop-place-preserved
 loop-place-preserved c = elim c.if-column_goes.branch [
   | then-column_goes+in_ok-push w ↦
-      let e : c.if-column_goes.kept.items ≡ c.loop-place.kept.items
+      let kept_is : c.if-column_goes.kept.items ≡ c.loop-place.kept.items
       ++ get_or c.args.places.now c.loop-place.place-index 0 ∷ [] = search rules in
-      rw e (keeps_push c.args.columns.now c.args.cut.variable c.args.cut.most c.args.below c.args.places.now
+      rw kept_is (keeps_push c.args.columns.now c.args.cut.variable c.args.cut.most c.args.below c.args.places.now
       c.loop-place.kept.items c.loop-place.place-index 0 c.loop-place-test.true
       c.loop-place.invariant)
   | else-column_goes w ↦ rw w.kept-is (keeps_skip c.args.columns.now c.args.cut.variable c.args.cut.most c.args.below

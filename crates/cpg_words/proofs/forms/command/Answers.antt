@@ -5,19 +5,19 @@ use Rattle.cpg_words.proofs.forms.command.Goals as goal
 
 -- the name is none of the ten, so no form has it; the tuple has one inequality for each form, in the order of the list
 pub returns-in_default : goal.returns-in_default
-returns-in_default c = let d = c.in_default in no_such_form forms _ _ (
-  d.not-show,
+returns-in_default c = let differs = c.in_default in no_such_form forms _ _ (
+  differs.not-show,
   (
-    d.not-compile,
+    differs.not-compile,
     (
-      d.not-check,
+      differs.not-check,
       (
-        d.not-play,
+        differs.not-play,
         (
-          d.not-node,
+          differs.not-node,
           (
-            d.not-trial,
-            (d.not-live, (d.not-hyper, (d.not-tune, (d.not-audit, tt)))),
+            differs.not-trial,
+            (differs.not-live, (differs.not-hyper, (differs.not-tune, (differs.not-audit, tt)))),
           ),
         ),
       ),

@@ -7,7 +7,7 @@ use Rattle.cpg_base.proofs.order.Order.place.Goals as goal
 -- each process is in the order, and the kept place is the one at which it stands
 pub returns-clause-there : goal.returns-clause-there
 returns-clause-there c =
-    let h : c.args.process < length c.self.inside.processes.items =
+    let inside : c.args.process < length c.self.inside.processes.items =
     subst (λ xs. c.args.process < length xs) (sym c.self.view_is) c.requires in
     rw (← c.self.view_is)
     (ap (λ k. get_or c.self.inside.processes.items k 0)

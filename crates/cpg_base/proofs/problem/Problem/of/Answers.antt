@@ -10,7 +10,7 @@ use Rattle.cpg_base.proofs.problem.Problem.of.Goals as goal
 pub unreachable-requires : goal.unreachable-requires
 unreachable-requires c =
     -- the graph of the arguments
-    let g : Graph = record {
+    let graph : Graph = record {
       faults = c.args.faults;
       deadline = c.args.deadline;
       nodes = c.args.nodes.items;
@@ -22,20 +22,21 @@ unreachable-requires c =
     } in
     -- the conditions that one pass over the edges finds are those of this graph
     let count : c.len.result ≡ length c.args.processes.items = search rules in
-    let found : filter (has_conditional_output c.as_slice.result.now) (numbers_below c.len.result) ≡ disjunctions g =
+    let found : filter (has_conditional_output c.as_slice.result.now)
+    (numbers_below c.len.result) ≡ disjunctions graph =
     ap₂ (λ es n. filter (has_conditional_output es) (numbers_below n)) c.as_slice.ensures.value count
-    ∙ conditions_found g in
+    ∙ conditions_found graph in
     -- more than 32 would break the limits
     let many : 32 < length (filter (has_conditional_output c.as_slice.result.now) (numbers_below c.len.result)) =
     c.in_default.ensures.many in
-    let over : 32 < length (disjunctions g) = rw found at many in
+    let over : 32 < length (disjunctions graph) = rw found at many in
     omega (arith, c.requires.few_conditions, over)
 
 -- The graph keeps its invariant: it is required to be within the limits, and the conditions that are found are its own.
 pub invariant_of-result : goal.invariant_of-result
 invariant_of-result c =
     -- the graph of the arguments
-    let g : Graph = record {
+    let graph : Graph = record {
       faults = c.args.faults;
       deadline = c.args.deadline;
       nodes = c.args.nodes.items;
@@ -50,5 +51,5 @@ invariant_of-result c =
       c.requires,
       c.in-Some.ensures.found
           ∙ ap₂ (λ es n. filter (has_conditional_output es) (numbers_below n)) c.as_slice.ensures.value count
-          ∙ conditions_found g,
+          ∙ conditions_found graph,
     )

@@ -15,6 +15,7 @@ round_of-requires c =
     omega (
       arith,
       same,
-      sum_by-le (λ (s : Slot). s.length) 1000000000 c.self.inside.slots.items (λ k d l. (within.slots k d l).length),
+      sum_by-le (λ (s : Slot). s.length) 1000000000 c.self.inside.slots.items
+          (λ k d inside. (within.slots k d inside).length),
       within.few_slots,
     )

@@ -21,50 +21,54 @@ use Rattle.cpg_check_heard.proofs.hearing.Hearing.arrivals.Goals as goal
 -- an item that is heard is one of the graph, so it has a row
 pub index-row-requires : goal.index-row-requires
 index-row-requires c =
-    let g = c.args.self.now.admitted.now.graph in
-    let x = get_or c.args.items.now c.loop-item.item-index 0 in
-    let below : x < item_count g =
-    heard_below g c.args.node x (c.requires.items c.loop-item.item-index 0 c.loop-item-test.true) in
+    let graph = c.args.self.now.admitted.now.graph in
+    let item = get_or c.args.items.now c.loop-item.item-index 0 in
+    let below : item < item_count graph =
+    heard_below graph c.args.node item (c.requires.items c.loop-item.item-index 0 c.loop-item-test.true) in
     omega (arith, below, c.requires.hearing.telling_rows.count)
 
 -- the telling row at the item's number has the sieved row of the item
 pub add_row-requires : goal.add_row-requires
 add_row-requires c =
-    let g = c.args.self.now.admitted.now.graph in
-    let x = get_or c.args.items.now c.loop-item.item-index 0 in
-    let below : x < item_count g =
-    heard_below g c.args.node x (c.requires.items c.loop-item.item-index 0 c.loop-item-test.true) in
+    let graph = c.args.self.now.admitted.now.graph in
+    let item = get_or c.args.items.now c.loop-item.item-index 0 in
+    let below : item < item_count graph =
+    heard_below graph c.args.node item (c.requires.items c.loop-item.item-index 0 c.loop-item-test.true) in
     let row = c.index-row.result.now in
     -- the row that was looked up is the item's
-    let is = row_at g c.args.self.now.tables.now.nodes
-    (item_count g) c.args.self.now.telling_rows.items x row c.requires.hearing.telling_rows below c.index-row.ensures in
+    let is = row_at graph c.args.self.now.tables.now.nodes
+    (item_count graph) c.args.self.now.telling_rows.items item row c.requires.hearing.telling_rows
+    below c.index-row.ensures in
     subst (λ columns. IsSievedRow columns row.sieved.now) (sym is.sieved.all) is.sieved
 
 -- with the next item's row, the columns tell what the rows of one item more tell
 pub loop-item-preserved : goal.loop-item-preserved
 loop-item-preserved c =
-    let g = c.args.self.now.admitted.now.graph in
-    let x = get_or c.args.items.now c.loop-item.item-index 0 in
+    let graph = c.args.self.now.admitted.now.graph in
+    let item = get_or c.args.items.now c.loop-item.item-index 0 in
     -- the next item is one that the node hears, and has a row
-    let parts = Contains-filter_parts (λ x. is_heard_by g c.args.node (item_at g x)) (numbers_below (item_count g)) x
+    let parts = Contains-filter_parts (λ x. is_heard_by graph c.args.node (item_at graph x))
+    (numbers_below (item_count graph)) item
     (c.requires.items c.loop-item.item-index 0 c.loop-item-test.true) in
-    let below : x < item_count g = numbers-Contains (item_count g) x parts.0 in
+    let below : item < item_count graph = numbers-Contains (item_count graph) item parts.0 in
     let tables = c.args.self.now.tables.now.nodes in
     let row = c.index-row.result.now in
     -- the row that was looked up is the item's
-    let is = row_at g tables
-    (item_count g) c.args.self.now.telling_rows.items x row c.requires.hearing.telling_rows below c.index-row.ensures in
+    let is = row_at graph tables
+    (item_count graph) c.args.self.now.telling_rows.items item row c.requires.hearing.telling_rows
+    below c.index-row.ensures in
     -- the row's columns have variables of the graph alone, and can tell each bound
-    let known : All (λ (d : Column). IsKnown g d.cube) row.sieved.now.columns.now =
-    rw is.sieved.all (columns_known c.requires.hearing.admitted tables c.requires.hearing.tables x) in
-    let can : (b : LiteralBound) → CanTell g b row.means = λ b.
-    rw is.means (heard_can g tables c.args.time b (record { values = []; faults = [] }) x c.args.node parts.1) in
+    let known : All (λ (d : Column). IsKnown graph d.cube) row.sieved.now.columns.now =
+    rw is.sieved.all (columns_known c.requires.hearing.admitted tables c.requires.hearing.tables item) in
+    let can : (b : LiteralBound) → CanTell graph b row.means = λ b.
+    rw is.means (heard_can graph tables c.args.time b (record { values = []; faults = [] }) item c.args.node parts.1) in
     -- with the row, the columns tell a bound where the rows of one item more do
     record {
-      each = c.in_ok-add_row.ensures.each g known can c.loop-item.invariant.each;
+      each = c.in_ok-add_row.ensures.each graph known can c.loop-item.invariant.each;
       told = λ b s m.
-          row_more (item_tells g tables c.args.time b s) c.args.items.now c.loop-item.item-index 0 c.loop-item-test.true
-          false (do_tell g c.args.time b c.loop-item.arrivals.items s)
-          (do_tell g c.args.time b c.add_row.new.arrivals.items s) (c.loop-item.invariant.told b s m)
-          (rw (is.means, is.sieved.all) at c.in_ok-add_row.ensures.told g b s m);
+          row_more (item_tells graph tables c.args.time b s) c.args.items.now
+          c.loop-item.item-index 0 c.loop-item-test.true
+          false (do_tell graph c.args.time b c.loop-item.arrivals.items s)
+          (do_tell graph c.args.time b c.add_row.new.arrivals.items s) (c.loop-item.invariant.told b s m)
+          (rw (is.means, is.sieved.all) at c.in_ok-add_row.ensures.told graph b s m);
     }

@@ -16,21 +16,22 @@ use Rattle.cpg_check_heard.proofs.hearing.Hearing.is_open.Goals as goal
 -- if the parts in which the own ends tell the bound leave nothing of the cube, the bound is told wherever that matches
 pub returns : goal.returns
 returns c =
-    let g = c.args.self.now.admitted.now.graph in
+    let graph = c.args.self.now.admitted.now.graph in
     let tables = c.args.self.now.tables.now.nodes in
-    let b = c.args.bound in
+    let bound = c.args.bound in
     let told = c.add_own.new.told.items in
     let few = c.requires.hearing.admitted.well_formed.few_processes in
-    let within : process_of_variable g (variable_of b) < process_count g =
-    variable_within g (variable_of b) few c.requires.variable in
+    let within : process_of_variable graph (variable_of bound) < process_count graph =
+    variable_within graph (variable_of bound) few c.requires.variable in
     -- the list was empty at first, so it matches just where an own end tells the bound, which is part of all that is
     -- heard
     fewer_left c.in_ok-left.left
-    (λ closed s i m. own_told (is_free g.faults b) (list_any (λ d. matches d s) told)
-    (own_tells g tables c.args.node c.args.time b s) (are_told_by g tables c.args.time b (heard_by g c.args.node) s)
-    (list_any (tells b) (facts g tables c.args.node s c.args.time))
+    (λ closed s i m. own_told (is_free graph.faults bound) (list_any (λ d. matches d s) told)
+    (own_tells graph tables c.args.node c.args.time bound s)
+    (are_told_by graph tables c.args.time bound (heard_by graph c.args.node) s)
+    (list_any (tells bound) (facts graph tables c.args.node s c.args.time))
     (c.in_ok-add_own.ensures.told s i m
-    ∙ ap (λ xs. list_any (λ d. matches d s) xs || own_tells g tables c.args.node c.args.time b s)
+    ∙ ap (λ xs. list_any (λ d. matches d s) xs || own_tells graph tables c.args.node c.args.time bound s)
     c.new-told.ensures.items)
-    (facts_told g tables c.args.time b s few within c.args.node) (closed s i m))
+    (facts_told graph tables c.args.time bound s few within c.args.node) (closed s i m))
     (rw c.as_slice.ensures.value at c.in_ok-left.ensures)

@@ -15,10 +15,10 @@ earlier-found-requires-clause-order c =
 -- the earlier of the answer so far and the next bound's is the least for one bound more
 pub loop-bound-preserved : goal.loop-bound-preserved
 loop-bound-preserved c =
-    let g = c.args.self.now.admitted.now.graph in
+    let graph = c.args.self.now.admitted.now.graph in
     let tables = c.args.self.now.tables.now.nodes in
     rw (c.earlier-found.ensures, c.problem-problem.ensures.problem, c.order-order.ensures.order)
-    (first_any_more g c.args.self.now.admitted.now.order (matches c.args.column.now.cube)
-    (λ s b. not (is_told g tables c.args.node c.args.column.now.time b s)) c.args.bounds.now
+    (first_any_more graph c.args.self.now.admitted.now.order (matches c.args.column.now.cube)
+    (λ s b. not (is_told graph tables c.args.node c.args.column.now.time b s)) c.args.bounds.now
     c.loop-bound.bound-index _ c.loop-bound-test.true
     c.loop-bound.found c.in_ok-next.next c.loop-bound.invariant c.in_ok-next.ensures)

@@ -17,54 +17,57 @@ use Rattle.cpg_check_heard.proofs.hearing.Hearing.least_untold.Goals as goal
 -- one column tells the bound wherever the cube matches, so it is never untold
 pub returns-then-tells_one_whole : goal.returns-then-tells_one_whole
 returns-then-tells_one_whole c =
-    let g = c.args.self.now.admitted.now.graph in
+    let graph = c.args.self.now.admitted.now.graph in
     let tables = c.args.self.now.tables.now.nodes in
-    let b = c.args.bound in
+    let bound = c.args.bound in
     let few = c.requires.hearing.admitted.well_formed.few_processes in
     -- the bound's process is one of the graph
-    let within : process_of_variable g (variable_of b) < process_count g =
-    variable_within g (variable_of b) few c.requires.variable in
+    let within : process_of_variable graph (variable_of bound) < process_count graph =
+    variable_within graph (variable_of bound) few c.requires.variable in
     let tell = rw c.problem-problem.ensures.problem at c.if-tells_one_whole.ensures in
     -- so the bound is told in every scenario of the cube
-    untold_nowhere g c.args.column.now.cube
-    (λ s. list_any (tells b) (facts g tables c.args.node s c.args.column.now.time)) (is_free g.faults b)
-    (λ s i m. told_heard (own_tells g tables c.args.node c.args.column.now.time b s)
-    (are_told_by g tables c.args.column.now.time b c.args.items.now s)
-    (list_any (tells b) (facts g tables c.args.node s c.args.column.now.time))
-    (facts_told g tables c.args.column.now.time b s few within c.args.node ∙ ap (λ xs.
-    own_tells g tables c.args.node c.args.column.now.time b s || are_told_by g tables c.args.column.now.time b xs s)
+    untold_nowhere graph c.args.column.now.cube
+    (λ s. list_any (tells bound) (facts graph tables c.args.node s c.args.column.now.time)) (is_free graph.faults bound)
+    (λ s i m. told_heard (own_tells graph tables c.args.node c.args.column.now.time bound s)
+    (are_told_by graph tables c.args.column.now.time bound c.args.items.now s)
+    (list_any (tells bound) (facts graph tables c.args.node s c.args.column.now.time))
+    (facts_told graph tables c.args.column.now.time bound s few within c.args.node ∙ ap (λ xs.
+    own_tells graph tables c.args.node c.args.column.now.time bound s
+    || are_told_by graph tables c.args.column.now.time bound xs s)
     (sym c.requires.items))
-    (sym (c.requires.arrivals.told b s m) ∙ tell s i m))
+    (sym (c.requires.arrivals.told bound s m) ∙ tell s i m))
 
 -- the least scenario that the told parts leave of the cube is the least in which the bound is untold
 pub returns : goal.returns
 returns c =
-    let g = c.args.self.now.admitted.now.graph in
+    let graph = c.args.self.now.admitted.now.graph in
     let tables = c.args.self.now.tables.now.nodes in
-    let b = c.args.bound in
+    let bound = c.args.bound in
     let few = c.requires.hearing.admitted.well_formed.few_processes in
     -- the bound's process is one of the graph, and not each number is within the bound
-    let within : process_of_variable g (variable_of b) < process_count g =
-    variable_within g (variable_of b) few c.requires.variable in
-    let free : is_free g.faults b ≡ false = search rules in
+    let within : process_of_variable graph (variable_of bound) < process_count graph =
+    variable_within graph (variable_of bound) few c.requires.variable in
+    let free : is_free graph.faults bound ≡ false = search rules in
     -- what the parts with the own ends and the frames tell, and the least scenario that they leave
     let heard = rw c.problem-problem.ensures.problem at c.in_ok-add_told.ensures.told in
-    let left : IsFirst g c.args.self.now.admitted.now.order (is_left c.add_told.new.told.items c.args.column.now.cube)
+    let left : IsFirst graph c.args.self.now.admitted.now.order
+    (is_left c.add_told.new.told.items c.args.column.now.cube)
     c.in_ok-found.found = rw c.as_slice.ensures.value at c.in_ok-found.ensures in
     -- all that is told of the bound is told by these, so in that scenario it is untold first
-    untold_first g c.args.self.now.admitted.now.order c.args.column.now.cube c.add_told.new.told.items
-    (λ s. list_any (tells b) (facts g tables c.args.node s c.args.column.now.time))
-    (is_free g.faults b) c.in_ok-found.found free
+    untold_first graph c.args.self.now.admitted.now.order c.args.column.now.cube c.add_told.new.told.items
+    (λ s. list_any (tells bound) (facts graph tables c.args.node s c.args.column.now.time))
+    (is_free graph.faults bound) c.in_ok-found.found free
     (λ s i m. told_all c.new-told.result.items s (list_any (λ d. matches d s) c.add_own.new.told.items)
     (list_any (λ d. matches d s) c.add_told.new.told.items)
-    (own_tells g tables c.args.node c.args.column.now.time b s)
-    (are_told_by g tables c.args.column.now.time b c.args.items.now s)
-    (list_any (tells b) (facts g tables c.args.node s c.args.column.now.time)) c.new-told.ensures.items
+    (own_tells graph tables c.args.node c.args.column.now.time bound s)
+    (are_told_by graph tables c.args.column.now.time bound c.args.items.now s)
+    (list_any (tells bound) (facts graph tables c.args.node s c.args.column.now.time)) c.new-told.ensures.items
     (c.in_ok-add_own.ensures.told s i m)
-    (heard s i ∙ ap (λ t. list_any (λ d. matches d s) c.add_own.new.told.items || t) (c.requires.arrivals.told b s m))
-    (facts_told g tables c.args.column.now.time b s few within c.args.node ∙
-    ap (λ xs. own_tells g tables c.args.node c.args.column.now.time b s
-    || are_told_by g tables c.args.column.now.time b xs s) (sym c.requires.items))) left
+    (heard s i ∙ ap (λ t. list_any (λ d. matches d s) c.add_own.new.told.items || t)
+    (c.requires.arrivals.told bound s m))
+    (facts_told graph tables c.args.column.now.time bound s few within c.args.node ∙
+    ap (λ xs. own_tells graph tables c.args.node c.args.column.now.time bound s
+    || are_told_by graph tables c.args.column.now.time bound xs s) (sym c.requires.items))) left
 
 -- the columns are on variables of the graph, and can tell each bound
 pub tells_one_whole-requires-clause-arrivals : goal.tells_one_whole-requires-clause-arrivals

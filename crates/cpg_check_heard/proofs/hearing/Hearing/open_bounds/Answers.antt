@@ -10,29 +10,30 @@ use Rattle.cpg_check_heard.proofs.hearing.Hearing.open_bounds.Goals as goal
 pub add_literal-requires-clause-literal : goal.add_literal-requires-clause-literal
 add_literal-requires-clause-literal c =
     let cube = c.args.column.now.cube in
-    let i = c.loop-literal.literal-index in
-    let within : i < length cube =
+    let index = c.loop-literal.literal-index in
+    let within : index < length cube =
     omega (arith, c.loop-literal-test.true, ap length c.literals-literal-items.ensures.literals) in
     rw c.literals-literal-items.ensures.literals
-    (Contains-get_or cube i (record { variable = 0; low = 0; high = 0 }) within)
+    (Contains-get_or cube index (record { variable = 0; low = 0; high = 0 }) within)
 
 -- with the open bounds of the next literal, one bound is untold exactly if one of one literal more is unheard
 pub loop-literal-preserved : goal.loop-literal-preserved
 loop-literal-preserved c =
-    let g = c.args.self.now.admitted.now.graph in
+    let graph = c.args.self.now.admitted.now.graph in
     let tables = c.args.self.now.tables.now.nodes in
     let node = c.args.node in
     let time = c.args.column.now.time in
     let cube = c.args.column.now.cube in
-    let i = c.loop-literal.literal-index in
-    let within : i < length cube =
+    let index = c.loop-literal.literal-index in
+    let within : index < length cube =
     omega (arith, c.loop-literal-test.true, ap length c.literals-literal-items.ensures.literals) in
-    let l = get_or cube i (record { variable = 0; low = 0; high = 0 }) in
+    let literal = get_or cube index (record { variable = 0; low = 0; high = 0 }) in
     -- the bounds are of known variables, and one is untold exactly if one of the literals so far isn't heard
     record {
       known = c.in_ok-add_literal.ensures.known;
       unheard = λ s law m. rw c.literals-literal-items.ensures.literals at c.in_ok-add_literal.ensures.unheard s law m
-          ∙ ap (λ x. x || is_literal_unheard g tables node time s l) (c.loop-literal.invariant.unheard s law m)
-          ∙ sym (list_any_more (is_literal_unheard g tables node time s) cube i
+          ∙ ap (λ x. x || is_literal_unheard graph tables node time s literal)
+          (c.loop-literal.invariant.unheard s law m)
+          ∙ sym (list_any_more (is_literal_unheard graph tables node time s) cube index
           (record { variable = 0; low = 0; high = 0 }) within);
     }

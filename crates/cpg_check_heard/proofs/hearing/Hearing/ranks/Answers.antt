@@ -11,10 +11,10 @@ use Rattle.cpg_check_heard.proofs.hearing.Hearing.ranks.Goals as goal
 -- an item that is heard is one of the graph, so it has a row
 pub index-row-requires : goal.index-row-requires
 index-row-requires c =
-    let g = c.args.self.now.admitted.now.graph in
-    let x = get_or c.args.items.now c.loop-item.item-index 0 in
-    let below : x < item_count g =
-    heard_below g c.args.node x (c.requires.items c.loop-item.item-index 0 c.loop-item-test.true) in
+    let graph = c.args.self.now.admitted.now.graph in
+    let item = get_or c.args.items.now c.loop-item.item-index 0 in
+    let below : item < item_count graph =
+    heard_below graph c.args.node item (c.requires.items c.loop-item.item-index 0 c.loop-item-test.true) in
     omega (arith, below, c.requires.hearing.telling_rows.count)
 
 -- the node hears the item of the rank that is added

@@ -23,18 +23,18 @@ left_open-requires-clause-arrivals c =
 -- what the next row's frames tell wherever the column matches is told, so leaving it out changes no answer there
 pub loop-rank-preserved : goal.loop-rank-preserved
 loop-rank-preserved c =
-    let g = c.args.self.now.admitted.now.graph in
+    let graph = c.args.self.now.admitted.now.graph in
     let tables = c.args.self.now.tables.now.nodes in
     let time = c.args.column.now.time in
-    let few : process_count g ≤ 128 = c.requires.hearing.admitted.well_formed.few_processes in
+    let few : process_count graph ≤ 128 = c.requires.hearing.admitted.well_formed.few_processes in
     -- what the frames of the row leave open
     let left = rw (c.problem-problem.ensures.problem, c.as_slice.ensures.value, c.as_slice-in-loop-rank.ensures.value)
     at c.in_ok-left.ensures.left in
     -- what is left are bounds of known variables, and one of them is untold exactly if one was before
     record {
       known = rw c.problem-problem.ensures.problem at c.in_ok-left.ensures.known;
-      untold = λ s law m. left s (λ b. not (is_told g tables c.args.node time b s)) law m
-          (λ b v told. frame_told g tables time b s few (variable_within g (variable_of b) few v) c.args.node _
+      untold = λ s law m. left s (λ b. not (is_told graph tables c.args.node time b s)) law m
+          (λ b v told. frame_told graph tables time b s few (variable_within graph (variable_of b) few v) c.args.node _
           (c.requires.ranks c.loop-rank.rank-index _ c.loop-rank-test.true)
           (sym (c.in_ok-arrivals.ensures.told b s m) ∙ told))
           ∙ c.loop-rank.invariant.untold s law m;

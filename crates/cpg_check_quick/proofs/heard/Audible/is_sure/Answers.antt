@@ -24,8 +24,8 @@ returns-then-are_all_known c = λ tables sequences frames rules sent is.
 -- the listener has heard all literals of the item's columns, so V4 holds
 pub returns : goal.returns
 returns c = of_true c.in_ok-heard.heard c.in_ok-heard.ensures (λ all tables sequences frames rules sent is.
-    let g = c.args.self.now.admitted.now.graph in
-    let node : c.home-node.result ≡ home g c.args.item =
+    let graph = c.args.self.now.admitted.now.graph in
+    let node : c.home-node.result ≡ home graph c.args.item =
     c.home-node.ensures.home ∙ ap (λ h. home h c.args.item) c.problem-problem.ensures.problem in
     let told = rw c.problem-problem.ensures.problem at c.in_ok-heard_rows.ensures in
     -- what the listener knows: its node, own processes that have ended, and what the node hears
@@ -36,6 +36,6 @@ returns c = of_true c.in_ok-heard.heard c.in_ok-heard.ensures (λ all tables seq
       known = c.own_ended-known.ensures tables sequences rules sent;
       heard_rows = told tables frames;
     }) rules is in
-    heard_sure g tables c.args.item (λ d l k h. subst (λ n. IsAllHeard g tables n d) node
-    (All-contains (IsAllHeard g tables c.home-node.result) (columns_of tables c.args.item) d
-    (subst (All (IsAllHeard g tables c.home-node.result)) is heard) k) l h))
+    heard_sure graph tables c.args.item (λ d l k h. subst (λ n. IsAllHeard graph tables n d) node
+    (All-contains (IsAllHeard graph tables c.home-node.result) (columns_of tables c.args.item) d
+    (subst (All (IsAllHeard graph tables c.home-node.result)) is heard) k) l h))

@@ -10,9 +10,9 @@ use Rattle.cpg_check_quick.proofs.input_rows.InputRows.is_after_producer.Goals a
 -- the producer's execution is over by the item's columns, as `precede` says of the only item in the list
 pub returns : goal.returns
 returns c = of_true c.precede.result c.precede.ensures (λ all tables w.
-    let g = c.args.self.now.admitted.now.graph in
+    let graph = c.args.self.now.admitted.now.graph in
     let from = c.producer-producer.ensures.producer ∙ ap (λ h. producer h c.args.item) c.problem.ensures.problem in
     let row = row_at w.frames c.args.item c.in-Some.row.now c.deref.result.now c.deref.ensures.value
     c.in-Some.ensures.lookup.3.0 c.in-Some.ensures.lookup.1 in
-    subst (λ p. IsBefore g tables p c.args.item) from
-    (all g tables (execution g) (frame g c.args.item) c.args.item w.sequences.rows row 0 0 (omega arith)))
+    subst (λ p. IsBefore graph tables p c.args.item) from
+    (all graph tables (execution graph) (frame graph c.args.item) c.args.item w.sequences.rows row 0 0 (omega arith)))

@@ -11,9 +11,9 @@ use Rattle.cpg_check_quick.proofs.input_rows.InputRows.is_over.Goals as goal
 -- the source never has the value that the edge asks for in the space, so the edge is live nowhere there
 pub returns-then-is_refused : goal.returns-then-is_refused
 returns-then-is_refused c = λ tables s w law lies on.
-    let g = c.args.self.now.admitted.now.graph in
+    let graph = c.args.self.now.admitted.now.graph in
     let refused = rw c.problem.ensures.problem at c.is_refused.ensures in
-    absurd (true≢false (sym (and_parts (active g s.values (source g c.args.edge)) _ on).1
+    absurd (true≢false (sym (and_parts (active graph s.values (source graph c.args.edge)) _ on).1
     ∙ OnTrue_at c.if-is_refused.true refused s lies))
 
 -- the row is that of what the input comes by, which is over by the time in each scenario of the space

@@ -13,11 +13,11 @@ use Rattle.cpg_check_quick.proofs.input_rows.InputRows.others.Goals as goal
 pub loop-edge-preserved-then-is_from_before : goal.loop-edge-preserved-then-is_from_before
 loop-edge-preserved-then-is_from_before c = record {
   edges = c.loop-edge.invariant.edges;
-  known = λ tables e w k. others_skip (λ d. IsFromBefore c.args.self.now.admitted.now.graph tables d c.args.process)
+  known = λ tables e w there. others_skip (λ d. IsFromBefore c.args.self.now.admitted.now.graph tables d c.args.process)
       c.args.edges.now c.loop-edge.others.items c.loop-edge.edge-index 0
       c.loop-edge-test.true
       (OnTrue_at c.if-is_from_before.true c.is_from_before.ensures tables w)
-      (λ d j. c.loop-edge.invariant.known tables d w j) e k;
+      (λ d j. c.loop-edge.invariant.known tables d w j) e there;
 }
 
 -- the next input is kept
@@ -26,10 +26,10 @@ loop-edge-preserved c = rw c.in_ok-push.ensures.items (record {
   edges = All-push (λ e. e < edge_count c.args.self.now.admitted.now.graph) c.loop-edge.others.items
       (get_or c.args.edges.now c.loop-edge.edge-index 0) c.loop-edge.invariant.edges
       (c.requires.edges c.loop-edge.edge-index 0 c.loop-edge-test.true);
-  known = λ tables e w k. others_push (λ d. IsFromBefore c.args.self.now.admitted.now.graph tables d c.args.process)
+  known = λ tables e w there. others_push (λ d. IsFromBefore c.args.self.now.admitted.now.graph tables d c.args.process)
       c.args.edges.now c.loop-edge.others.items c.loop-edge.edge-index 0
       c.loop-edge-test.true
-      (λ d j. c.loop-edge.invariant.known tables d w j) e k;
+      (λ d j. c.loop-edge.invariant.known tables d w j) e there;
 })
 
 -- the loop has gone over all inputs, so what its invariant says of those so far holds of each

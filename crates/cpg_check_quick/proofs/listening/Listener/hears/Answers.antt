@@ -26,7 +26,7 @@ returns-then-not-narrow_to c = λ tables x is rules k l h s law m.
 -- literals are heard
 pub returns : goal.returns
 returns c = of_true c.are_over.result c.are_over.ensures (λ over tables x is rules k.
-    let g = c.args.self.now.admitted.now.graph in
+    let graph = c.args.self.now.admitted.now.graph in
     let node = c.args.self.now.node in
     let column = c.args.column.now in
     let known = c.args.self.now.known in
@@ -34,22 +34,23 @@ returns c = of_true c.are_over.result c.are_over.ensures (λ over tables x is ru
     -- the space has all scenarios in which the column matches
     let fits = rw c.literals-literals.ensures.literals at
     (from_true c.narrow_to.result c.if-not-narrow_to.false c.narrow_to.ensures.lies) in
-    let lies : (s : Scenario) → IsScenario g s → matches column.cube s ≡ true → IsInSpace c.narrow_to.new.self s =
+    let lies : (s : Scenario) → IsScenario graph s → matches column.cube s ≡ true → IsInSpace c.narrow_to.new.self s =
     λ s law m. fits s (is.sequences.rows.everywhere.lies s law) m in
     -- the bounds that are asked for, and those that frames leave
     let wanted : List Literal = c.list_unknown.new.bounds.items in
     let left : List Literal = c.listen.new.wanted.items in
-    let listed : wanted ≡ flat_map (unknown_bounds g.faults known) column.cube =
+    let listed : wanted ≡ flat_map (unknown_bounds graph.faults known) column.cube =
     rw (c.literals-literals.ensures.literals, c.faults.ensures.faults, c.problem-problem.ensures.problem) at
     c.in_ok-list_unknown.ensures in
     -- some literal of the column implies each of them
-    let wider : AreToldIn column.cube wanted = all_wider g tables node column known wanted listed in
-    let told : AreLeft g tables (home g x) column wanted left = subst (λ n. AreLeft g tables n column wanted left)
-    is.node (c.in_ok-listen.ensures g tables is.heard_rows wider lies) in
+    let wider : AreToldIn column.cube wanted = all_wider graph tables node column known wanted listed in
+    let told : AreLeft graph tables (home graph x) column wanted left = subst (λ n. AreLeft graph
+    tables n column wanted left)
+    is.node (c.in_ok-listen.ensures graph tables is.heard_rows wider lies) in
     -- the processes of those that are left are over by the column's time
     let ended = rw (c.as_slice.ensures.value, is.node) at over in
-    subst (λ n. IsAllHeard g tables n column) (sym is.node)
-    (column_heard g tables (home g x) column known wanted listed
-    (known_heard g tables rules x is.item few column k known is.known)
-    (left_heard g tables rules x is.item few column k wanted left wider told
+    subst (λ n. IsAllHeard graph tables n column) (sym is.node)
+    (column_heard graph tables (home graph x) column known wanted listed
+    (known_heard graph tables rules x is.item few column k known is.known)
+    (left_heard graph tables rules x is.item few column k wanted left wider told
     (λ s law m. ended tables s is.sequences law (lies s law m)))))

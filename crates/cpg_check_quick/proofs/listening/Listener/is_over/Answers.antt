@@ -8,15 +8,15 @@ use Rattle.cpg_check_quick.proofs.listening.Listener.is_over.Goals as goal
 -- the execution is over by the time in each scenario, so in those of the space
 pub returns-then-is_early : goal.returns-then-is_early
 returns-then-is_early c = λ tables s sequences law lies.
-    let g = c.args.self.now.admitted.now.graph in
-    OnTrue_at c.if-is_early.true c.is_early.ensures g tables (execution g c.args.process) c.args.process s
+    let graph = c.args.self.now.admitted.now.graph in
+    OnTrue_at c.if-is_early.true c.is_early.ensures graph tables (execution graph c.args.process) c.args.process s
     (row_at sequences.rows c.args.process c.in-Some.row.now c.deref.result.now c.deref.ensures.value
     c.in-Some.ensures.lookup.3.0 c.in-Some.ensures.lookup.1) law
 
 -- the execution is over by the time in each scenario of the space
 pub returns : goal.returns
 returns c = of_true c.is_over.result c.is_over.ensures (λ over tables s sequences law lies.
-    let g = c.args.self.now.admitted.now.graph in
-    over g tables (execution g c.args.process) c.args.process s
+    let graph = c.args.self.now.admitted.now.graph in
+    over graph tables (execution graph c.args.process) c.args.process s
     (row_at sequences.rows c.args.process c.in-Some.row.now c.deref.result.now c.deref.ensures.value
     c.in-Some.ensures.lookup.3.0 c.in-Some.ensures.lookup.1) law lies)

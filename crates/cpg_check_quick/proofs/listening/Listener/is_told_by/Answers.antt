@@ -19,7 +19,7 @@ pub returns : goal.returns
 returns c = of_true c.begin_with.result
     (rw (c.literals.ensures.literals, c.literals-2.ensures.literals) at c.begin_with.ensures)
     (λ begins tables x is speaks rules k.
-    let g = c.args.self.now.admitted.now.graph in
+    let graph = c.args.self.now.admitted.now.graph in
     let known = c.args.self.now.known in
     let column = c.args.column.now in
     let own = c.in-Some.own.now in
@@ -30,9 +30,10 @@ returns c = of_true c.begin_with.result
     (c.args.place, c.in-Some.ensures.lookup.3.0, sym c.in-Some.ensures.lookup.1) in
     let rest : List Literal = drop (length own.cube) column.cube in
     -- `known_heard` is for the literals behind the first ones
-    begun_heard speaks column own there (OnTrue_at c.if-not-has_come.false c.has_come.ensures.come) begins.first (λ l h.
-    subst (λ n. IsHeardIn g tables n column l) (sym is.node)
-    (known_heard g tables rules x is.item few column k known is.known l
+    begun_heard speaks column own there (OnTrue_at c.if-not-has_come.false c.has_come.ensures.come)
+    begins.first (λ l among.
+    subst (λ n. IsHeardIn graph tables n column l) (sym is.node)
+    (known_heard graph tables rules x is.item few column k known is.known l
     (subst (λ cube. Contains cube l) (take-append-drop (length own.cube) column.cube)
-    (Contains-append_right (take (length own.cube) column.cube) rest l h))
-    (All-contains (λ (l : Literal). get_or known l.variable false ≡ true) rest l begins.behind h))))
+    (Contains-append_right (take (length own.cube) column.cube) rest l among))
+    (All-contains (λ (l : Literal). get_or known l.variable false ≡ true) rest l begins.behind among))))

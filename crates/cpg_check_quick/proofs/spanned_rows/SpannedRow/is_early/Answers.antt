@@ -7,4 +7,4 @@ use Rattle.cpg_check_quick.proofs.spanned_rows.SpannedRow.is_early.Goals as goal
 -- its latest end is no later than the time, and neither is any other
 pub returns : goal.returns
 returns c = of_true c.has_come.result c.has_come.ensures.come
-    (λ h g tables lasts x s row law. early_over row law c.args.time h)
+    (λ at_most g tables lasts x s row law. early_over row law c.args.time at_most)

@@ -13,9 +13,9 @@ use Rattle.cpg_check_time.proofs.due.DueTimeJudge.least.Goals as goal
 -- the least scenario of the part in which the execution ends after the due is the least that breaks V9
 pub returns : goal.returns
 returns c =
-    let g = c.args.admitted.now.graph in
+    let graph = c.args.admitted.now.graph in
     -- the item is a start
-    let within : c.args.item < process_count g = omega (
+    let within : c.args.item < process_count graph = omega (
       arith,
       c.if-item-processes.false,
       ap length c.processes.ensures.processes,
@@ -23,10 +23,12 @@ returns c =
     ) in
     let there = rw c.in-Some.is at c.in_ok-part.ensures.part in
     -- the part in which the execution ends after the due, and its least scenario
-    let part : (s : Scenario) → IsScenario g s → matches c.in-Some.part s
-    ≡ (matches c.args.column.now.cube s && ends_after g c.args.item c.args.column.now.time (due g c.args.item) s) =
+    let part : (s : Scenario) → IsScenario graph s → matches c.in-Some.part s
+    ≡ (matches c.args.column.now.cube s && ends_after graph c.args.item c.args.column.now.time
+    (due graph c.args.item) s) =
     rw (← c.problem-problem.ensures.problem) (rw c.due-due.ensures at there) in
-    let first : IsFirst g c.args.admitted.now.order (matches c.in-Some.part) c.in_ok-least.least =
+    let first : IsFirst graph c.args.admitted.now.order (matches c.in-Some.part) c.in_ok-least.least =
     rw (← c.problem-problem.ensures.problem) (c.in_ok-least.ensures.first c.args.admitted.now.order) in
-    due_first g c.args.admitted.now.order c.args.tables.now.nodes c.args.item c.args.column.now within c.in-Some.part
+    due_first graph c.args.admitted.now.order c.args.tables.now.nodes c.args.item c.args.column.now within
+    c.in-Some.part
     part c.in_ok-least.least first

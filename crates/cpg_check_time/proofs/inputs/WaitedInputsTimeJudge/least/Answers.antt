@@ -54,16 +54,16 @@ returns-then-item-processes c =
 -- the item is a process, and the column is before its release, so it breaks V5 wherever it matches
 pub returns-then-column-release : goal.returns-then-column-release
 returns-then-column-release c =
-    let g = c.args.admitted.now.graph in
+    let graph = c.args.admitted.now.graph in
     -- the item is a start
-    let start : c.args.item < process_count g = omega (
+    let start : c.args.item < process_count graph = omega (
       arith,
       c.if-item-processes.false,
       ap length c.processes.ensures.processes,
       ap process_count c.problem-problem.ensures.problem,
     ) in
     -- its column is before the release
-    let early : c.args.column.now.time < (process_at g c.args.item).release =
+    let early : c.args.column.now.time < (process_at graph c.args.item).release =
     omega (
       arith,
       c.if-column-release.true,
@@ -71,7 +71,7 @@ returns-then-column-release c =
       ap (λ h. (process_at h c.args.item).release) c.problem-problem.ensures.problem,
     ) in
     -- so the least scenario of the column is the least in which it breaks V5
-    let first : IsFirst g c.args.admitted.now.order (matches c.args.column.now.cube) c.in_ok-least-2.least =
+    let first : IsFirst graph c.args.admitted.now.order (matches c.args.column.now.cube) c.in_ok-least-2.least =
     rw (← c.problem-problem.ensures.problem) (c.in_ok-least-2.ensures.first c.args.admitted.now.order) in
     first_released c.problem-problem.ensures.admitted c.args.tables.now.nodes c.requires.suits.rules c.args.item
     c.args.column.now c.in_ok-least-2.least start early first
@@ -79,28 +79,28 @@ returns-then-column-release c =
 -- the inputs of a process are edges of the graph
 pub least_of_lacking-requires-clause-edges : goal.least_of_lacking-requires-clause-edges
 least_of_lacking-requires-clause-edges c =
-    let g = c.args.admitted.now.graph in
-    let is : c.inputs-edges.result.now ≡ inputs g c.args.item =
-    c.inputs-edges.ensures.of_graph g c.requires.suits.links in
-    subst (All (λ e. e < edge_count g)) (sym is)
-    (All-weaker (Contains (inputs g c.args.item)) (λ e. e < edge_count g)
-    (λ e k. numbers-Contains (edge_count g) e
-    (Contains-filter_parts (λ e. target g e == c.args.item) (numbers_below (edge_count g)) e k).0)
-    (inputs g c.args.item) (All-contains_itself (inputs g c.args.item)))
+    let graph = c.args.admitted.now.graph in
+    let is : c.inputs-edges.result.now ≡ inputs graph c.args.item =
+    c.inputs-edges.ensures.of_graph graph c.requires.suits.links in
+    subst (All (λ e. e < edge_count graph)) (sym is)
+    (All-weaker (Contains (inputs graph c.args.item)) (λ e. e < edge_count graph)
+    (λ e member. numbers-Contains (edge_count graph) e
+    (Contains-filter_parts (λ e. target graph e == c.args.item) (numbers_below (edge_count graph)) e member).0)
+    (inputs graph c.args.item) (All-contains_itself (inputs graph c.args.item)))
 
 -- the column is not before the release, so it breaks V5 exactly if an input is missing
 pub returns : goal.returns
 returns c =
-    let g = c.args.admitted.now.graph in
+    let graph = c.args.admitted.now.graph in
     -- the item is a start
-    let start : c.args.item < process_count g = omega (
+    let start : c.args.item < process_count graph = omega (
       arith,
       c.if-item-processes.false,
       ap length c.processes.ensures.processes,
       ap process_count c.problem-problem.ensures.problem,
     ) in
     -- its column isn't before the release
-    let released : (process_at g c.args.item).release ≤ c.args.column.now.time =
+    let released : (process_at graph c.args.item).release ≤ c.args.column.now.time =
     omega (
       arith,
       c.if-column-release.false,
@@ -108,10 +108,10 @@ returns c =
       ap (λ h. (process_at h c.args.item).release) c.problem-problem.ensures.problem,
     ) in
     -- the edges that are asked about are its inputs, and the answer is the least scenario that lacks one
-    let is : c.inputs-edges.result.now ≡ inputs g c.args.item =
-    c.inputs-edges.ensures.of_graph g c.requires.suits.links in
-    let first : IsFirst g c.args.admitted.now.order
-    (λ s. list_any (λ e. lacks_input g c.args.tables.now.nodes c.args.column.now e s) (inputs g c.args.item))
+    let is : c.inputs-edges.result.now ≡ inputs graph c.args.item =
+    c.inputs-edges.ensures.of_graph graph c.requires.suits.links in
+    let first : IsFirst graph c.args.admitted.now.order
+    (λ s. list_any (λ e. lacks_input graph c.args.tables.now.nodes c.args.column.now e s) (inputs graph c.args.item))
     c.in_ok-least-3.least =
     rw (← is) c.in_ok-least-3.ensures in
     first_input c.problem-problem.ensures.admitted c.args.tables.now.nodes c.requires.suits.rules c.args.item

@@ -46,27 +46,27 @@ least_near-requires-clause-fits c = c.requires.column.cube.known
 
 -- two columns share a slot only in scenarios in which both match
 pub least_near-requires-clause-near : goal.least_near-requires-clause-near
-least_near-requires-clause-near c = λ s d t. shares_both c.args.column.now s d t
+least_near-requires-clause-near c = λ s d shared. shares_both c.args.column.now s d shared
 
 -- the node of the item sends the other one, and the search went over all columns that may share the slot, so what it
 -- found is the least scenario in which the column and the other item clash
 pub returns : goal.returns
 returns c =
-    let g = c.args.admitted.now.graph in
+    let graph = c.args.admitted.now.graph in
     let order = c.args.admitted.now.order in
     -- the columns of the other item
     let row : IsSievedRow (columns_of c.args.tables.now.nodes c.args.other) c.index-rows-other.result =
     subst (IsSievedRow (columns_of c.args.tables.now.nodes c.args.other)) (sym c.index-rows-other.is)
     (c.requires.fits.each c.args.other c.index-rows-other.result c.requires.other) in
     -- the same node sends it
-    let sent : is_sent g c.args.other ≡ true =
+    let sent : is_sent graph c.args.other ≡ true =
     rw (← c.problem-problem.ensures.problem) (sym c.if-not-is_sent.ensures) in
-    let node : home g c.args.other ≡ home g c.args.item =
+    let node : home graph c.args.other ≡ home graph c.args.item =
     rw (← c.problem-problem.ensures.problem) (sym c.home.ensures.home ∙ c.if-home.false ∙ c.home-2.ensures.home) in
     -- the least scenario in which one of them shares the slot
-    let first : IsFirst g order
+    let first : IsFirst graph order
     (λ s. list_any (λ d. shares c.args.column.now d s) (columns_of c.args.tables.now.nodes c.args.other))
     c.in_ok-found.found =
     rw row.all at c.in_ok-found.ensures in
-    other_item g c.args.tables.now.nodes c.args.item c.args.column.now c.args.other sent node order
+    other_item graph c.args.tables.now.nodes c.args.item c.args.column.now c.args.other sent node order
     c.in_ok-found.found first

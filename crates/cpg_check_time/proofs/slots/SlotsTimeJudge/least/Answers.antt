@@ -11,24 +11,24 @@ use Rattle.cpg_check_time.proofs.slots.SlotsTimeJudge.least.Goals as goal
 -- the column is at no start of a slot, so it breaks V7 wherever it matches
 pub returns-then-not-is_slot_start : goal.returns-then-not-is_slot_start
 returns-then-not-is_slot_start c =
-    let g = c.args.admitted.now.graph in
+    let graph = c.args.admitted.now.graph in
     let problem = c.problem-problem.ensures.problem in
     -- the item is sent, no slot starts at the time, and `least` is the least scenario that the column matches
-    let sent : is_sent g c.args.item ≡ true = rw (← problem) (sym c.if-not-is_sent.ensures) in
-    let no : (next_slot g (home g c.args.item) c.args.column.now.time == c.args.column.now.time) ≡ false =
+    let sent : is_sent graph c.args.item ≡ true = rw (← problem) (sym c.if-not-is_sent.ensures) in
+    let no : (next_slot graph (home graph c.args.item) c.args.column.now.time == c.args.column.now.time) ≡ false =
     rw (← problem, ← c.home.ensures.home) (sym c.if-not-is_slot_start.ensures) in
-    let first : IsFirst g c.args.admitted.now.order (matches c.args.column.now.cube) c.in_ok-least.least =
+    let first : IsFirst graph c.args.admitted.now.order (matches c.args.column.now.cube) c.in_ok-least.least =
     rw (← problem) (c.in_ok-least.ensures.first c.args.admitted.now.order) in
-    first_no_start g c.args.admitted.now.order c.args.tables.now.nodes c.args.item c.args.column.now sent
-    (λ e. true≢false (sym (eq-eqb _ _ e) ∙ no)) c.in_ok-least.least first
+    first_no_start graph c.args.admitted.now.order c.args.tables.now.nodes c.args.item c.args.column.now sent
+    (λ start. true≢false (sym (eq-eqb _ _ start) ∙ no)) c.in_ok-least.least first
 
 -- the column is at the start of a slot, so it breaks V7 exactly if a lower item shares that slot
 pub returns : goal.returns
 returns c =
-    let g = c.args.admitted.now.graph in
+    let graph = c.args.admitted.now.graph in
     let problem = c.problem-problem.ensures.problem in
-    let sent : is_sent g c.args.item ≡ true = rw (← problem) (sym c.if-not-is_sent.ensures) in
-    let start : next_slot g (home g c.args.item) c.args.column.now.time ≡ c.args.column.now.time =
+    let sent : is_sent graph c.args.item ≡ true = rw (← problem) (sym c.if-not-is_sent.ensures) in
+    let start : next_slot graph (home graph c.args.item) c.args.column.now.time ≡ c.args.column.now.time =
     eqb-true _ _ (rw (← problem, ← c.home.ensures.home) (sym c.if-not-is_slot_start.ensures)) in
-    first_shared g c.args.admitted.now.order c.args.tables.now.nodes c.args.item c.args.column.now sent start
+    first_shared graph c.args.admitted.now.order c.args.tables.now.nodes c.args.item c.args.column.now sent start
     c.in_ok-least-2.least c.in_ok-least-2.ensures

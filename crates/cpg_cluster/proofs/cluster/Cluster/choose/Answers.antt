@@ -56,27 +56,27 @@ pub loop-asked-preserved : goal.loop-asked-preserved
 loop-asked-preserved c = elim c.match-step.branch [
   -- the node waits: one more has waited
   | in-Waits w ↦
-      let r = waits_more c.args.self.now c.loop-asked.self c.step.new.self c.len-nodes.result c.args.first
+      let goes_on = waits_more c.args.self.now c.loop-asked.self c.step.new.self c.len-nodes.result c.args.first
       c.loop-asked.asked c.loop-asked.waits
       (count-joined c) c.loop-asked.invariant.same c.step.ensures.step
       c.loop-asked.invariant.choosing c.loop-asked-test.true w.in-Waits.on (w.in-Waits.ensures.answer) in
       record {
-        same = r.0;
+        same = goes_on.0;
         choosing = subst (λ n. IsChoosing c.args.self.now.graph c.args.self.now.world c.args.self.now.cluster
             c.len-nodes.result c.args.first (c.loop-asked.asked + 1) n)
-            (sym w.waits-is) r.1;
+            (sym w.waits-is) goes_on.1;
       }
   -- the node is done
   | in-Done w ↦
-      let r = done_more c.args.self.now c.loop-asked.self c.step.new.self c.len-nodes.result c.args.first
+      let goes_on = done_more c.args.self.now c.loop-asked.self c.step.new.self c.len-nodes.result c.args.first
       c.loop-asked.asked c.loop-asked.waits
       (count-joined c) c.loop-asked.invariant.same c.step.ensures.step
       c.loop-asked.invariant.choosing c.loop-asked-test.true (w.in-Done.ensures.answer) in
       record {
-        same = r.0;
+        same = goes_on.0;
         choosing = subst (λ n. IsChoosing c.args.self.now.graph c.args.self.now.world c.args.self.now.cluster
             c.len-nodes.result c.args.first (c.loop-asked.asked + 1) n)
-            (sym w.waits-is) r.1;
+            (sym w.waits-is) goes_on.1;
       }
 ]
 
@@ -104,6 +104,6 @@ returns-clause-waits c =
 
 -- if every node was asked, nobody took a turn
 pub returns-clause-nearer : goal.returns-clause-nearer
-returns-clause-nearer c e = absurd
+returns-clause-nearer c holds = absurd
     (none_took c.args.self.now c.loop-asked.self c.len-nodes.result c.args.first c.loop-asked.asked c.loop-asked.waits
-    (count-n c) c.loop-asked.invariant.same c.loop-asked.invariant.choosing c.loop-asked-test.false e)
+    (count-n c) c.loop-asked.invariant.same c.loop-asked.invariant.choosing c.loop-asked-test.false holds)

@@ -99,14 +99,14 @@ pub loop-self-preserved : goal.loop-self-preserved
 loop-self-preserved c =
     let inside = c.self-in-loop-self.inside in
     let invariant = c.self-in-loop-self.invariant in
-    let r = drive_step c.args.self.now c.loop-self.self c.choose-waits.new.self c.args.number c.loop-self.drawn
+    let goes_on = drive_step c.args.self.now c.loop-self.self c.choose-waits.new.self c.args.number c.loop-self.drawn
     c.loop-self.waits c.next_number-drawn.result _ c.choose-waits.result
     c.loop-self.invariant.same c.loop-self.invariant.driving
     (left_at inside.problem (record { scenario = inside.scenario; lengths = inside.lengths }) inside.members.items c.loop-self.self
     c.self-in-loop-self.view_is invariant.playing (left c)) c.next_number-drawn.ensures
     (ap (λ nodes. (c.next_number-drawn.result / 2 ^ 33) % nodes) (count c)) c.choose-waits.ensures.state
     c.choose-waits.ensures.waits in
-    record { same = r.0; driving = r.1; spent = spent c }
+    record { same = goes_on.0; driving = goes_on.1; spent = spent c }
 
 -- when no member has a next instant, every node is done
 pub returns-clause-driven : goal.returns-clause-driven

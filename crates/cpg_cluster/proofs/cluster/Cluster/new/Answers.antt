@@ -9,8 +9,8 @@ use Rattle.cpg_cluster.proofs.cluster.Cluster.new.Goals as goal
 -- with its full lengths, which are the durations, a scenario is a world
 pub with_lengths-requires-clause-world : goal.with_lengths-requires-clause-world
 with_lengths-requires-clause-world c =
-    let g = c.args.admitted.now.graph in
-    let s = c.args.scenario.now in
-    subst (λ (ls : List ℕ). IsWorld g (record { scenario = s; lengths = ls }))
-    (sym (c.in_ok-lengths.ensures ∙ ap (λ g. full_lengths g s) c.problem.ensures.problem))
-    (full_world g s c.problem.ensures.admitted.well_formed c.requires.scenario)
+    let graph = c.args.admitted.now.graph in
+    let scenario = c.args.scenario.now in
+    subst (λ (ls : List ℕ). IsWorld graph (record { scenario = scenario; lengths = ls }))
+    (sym (c.in_ok-lengths.ensures ∙ ap (λ g. full_lengths g scenario) c.problem.ensures.problem))
+    (full_world graph scenario c.problem.ensures.admitted.well_formed c.requires.scenario)

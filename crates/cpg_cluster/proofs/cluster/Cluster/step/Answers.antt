@@ -31,11 +31,12 @@ pub waited_on-requires-clause-indexed : goal.waited_on-requires-clause-indexed
 waited_on-requires-clause-indexed c =
     let inside = c.self.inside in
     let invariant = c.self.invariant in
-    let m = c.index-member.result.now in
-    subst (λ (ms : List Member). AreIndexed m.node.dispatcher.table.hears m.senders.items (length ms) m.arrivals.items)
+    let member = c.index-member.result.now in
+    subst (λ (ms : List Member). AreIndexed member.node.dispatcher.table.hears member.senders.items
+    (length ms) member.arrivals.items)
     (sym c.as_slice.ensures.value)
     (indexed inside.problem (record { scenario = inside.scenario; lengths = inside.lengths }) inside.members.items invariant.playing invariant.members
-    c.args.node m c.index-member.ensures
+    c.args.node member c.index-member.ensures
     (omega (
       arith,
       c.requires,
@@ -92,8 +93,8 @@ returns-in-Some-waited_on-clause-step c =
 
 -- a node that waits takes no turn
 pub returns-in-Some-waited_on-clause-nearer : goal.returns-in-Some-waited_on-clause-nearer
-returns-in-Some-waited_on-clause-nearer c e = let x : Waits c.in-Some-waited_on.on ≡ Took =
-    waits c ∙ ap (λ (p : Playing). answer p.graph p.cluster c.args.node) c.self.view_is ∙ e in
+returns-in-Some-waited_on-clause-nearer c takes = let conflict : Waits c.in-Some-waited_on.on ≡ Took =
+    waits c ∙ ap (λ (p : Playing). answer p.graph p.cluster c.args.node) c.self.view_is ∙ takes in
     cc
 
 -- The node takes its turn. Helpers end in `-f` where frames are gathered, and in `-t` where the turn is taken.
@@ -417,4 +418,4 @@ returns-in_default-clause-whole c _ =
 
 -- the node took its turn, so it didn't answer that it is done
 pub returns-clause-whole : goal.returns-clause-whole
-returns-clause-whole c e = let x : Took ≡ Done = e in cc
+returns-clause-whole c is_done = let conflict : Took ≡ Done = is_done in cc

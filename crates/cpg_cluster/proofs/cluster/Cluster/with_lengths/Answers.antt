@@ -46,19 +46,20 @@ of c = c.requires.tables
 -- the play is opened, each member keeps what it should, and the frames have room for all hear rows
 pub invariant_of-result : goal.invariant_of-result
 invariant_of-result c =
-    let g = c.args.admitted.now.graph in
+    let graph = c.args.admitted.now.graph in
     let tables = c.args.tables.nodes in
-    let w : World = record { scenario = c.args.scenario.now; lengths = c.args.lengths.now } in
+    let world : World = record { scenario = c.args.scenario.now; lengths = c.args.lengths.now } in
     let ms = c.in_ok-members.members.items in
-    let a = c.problem.ensures.admitted in
+    let admitted = c.problem.ensures.admitted in
     record {
       -- the play is opened, with at most 16 members
       playing = subst IsPlaying (sym (parts c))
-          (playing_open g tables w a.limits (of c) ms (open' c) a.well_formed c.requires.valid c.requires.world);
-      few = omega (arith, (open' c).count, (of c).count, a.limits.few_nodes);
+          (playing_open graph tables world admitted.limits (of c) ms (open' c) admitted.well_formed
+          c.requires.valid c.requires.world);
+      few = omega (arith, (open' c).count, (of c).count, admitted.limits.few_nodes);
       -- each member keeps what it should
       members = subst (λ (g : Graph). AllFit g ms) (sym (c.in_ok-problem.ensures ∙ c.problem-2.ensures.problem))
-          (fits_open g tables w a.limits (of c) ms (open' c));
+          (fits_open graph tables world admitted.limits (of c) ms (open' c));
       -- and there is room for the frames of the node that hears most
       frames = λ i d l.
           let few = subst (λ (ms : List Member).

@@ -9,15 +9,15 @@ use Rattle.cpg_cover.proofs.covering.Ground.add_over.Goals.{in-Some+in_ok-single
 
 -- a cube added beyond a literal's range matches no numbers of a narrow scenario, so one from before does
 pub loop-literal-preserved : goal.loop-literal-preserved
-loop-literal-preserved c s narrow t =
-    let n = beyond c.args.self.now.bounds.low s in
+loop-literal-preserved c s narrow any_matched =
+    let numbers = beyond c.args.self.now.bounds.low s in
     elim c.match-over.branch [
       | in-Some+in_ok-single+in_ok-add w ↦
           let over = w.in-Some.over in
-          carried (is_any_at n c.loop-literal.cubes.items) (matches_at n (over ∷ [])) _
-          (rw w.in_ok-single.ensures at (w.in_ok-add.ensures n (rw w.cubes-is at t)))
-          (λ a. c.loop-literal.invariant s narrow a)
-          (λ b. absurd (both_ways (holds_at n over)
-          (w.in-Some.ensures n (narrow c.loop-literal.literal-index _ (omega arith))) (and_parts _ _ b).0))
-      | in_default w ↦ c.loop-literal.invariant s narrow (rw w.cubes-is at t)
+          carried (is_any_at numbers c.loop-literal.cubes.items) (matches_at numbers (over ∷ [])) _
+          (rw w.in_ok-single.ensures at (w.in_ok-add.ensures numbers (rw w.cubes-is at any_matched)))
+          (λ before. c.loop-literal.invariant s narrow before)
+          (λ added. absurd (both_ways (holds_at numbers over)
+          (w.in-Some.ensures numbers (narrow c.loop-literal.literal-index _ (omega arith))) (and_parts _ _ added).0))
+      | in_default w ↦ c.loop-literal.invariant s narrow (rw w.cubes-is at any_matched)
     ]

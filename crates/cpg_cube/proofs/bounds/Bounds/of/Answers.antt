@@ -10,10 +10,11 @@ loop-literal-init c = record { bounds = bounds_whole; lows = search rules; highs
 -- with the range of the next literal written, the arrays are the bounds of one literal more
 pub loop-literal-preserved : goal.loop-literal-preserved
 loop-literal-preserved c =
-    let i = c.loop-literal.invariant in
+    let invariant = c.loop-literal.invariant in
     record {
       bounds = bounds_push c.args.literals.now c.loop-literal.literal-index _ c.requires
-          (omega arith) c.loop-literal.low c.loop-literal.high i.lows i.highs (search rules) i.bounds;
+          (omega arith) c.loop-literal.low c.loop-literal.high invariant.lows invariant.highs
+          (search rules) invariant.bounds;
       lows = search rules;
       highs = search rules;
     }

@@ -7,7 +7,7 @@ use Rattle.cpg_cube.proofs.bounds.Bounds.write_faults.Goals as goal
 -- the loop has written all processes, so the faults are the lows of all of them
 pub returns : goal.returns
 returns c =
-    let i = c.loop-process.invariant in
-    ap₂ (λ v f. let s : Scenario = record { values = v; faults = f } in s) i.values
-    (fill_by_all (λ p. get_or c.args.self.now.low p 0) c.loop-process.least.faults c.args.processes 0 i.long
-    (λ p h. i.written p (omega arith)))
+    let invariant = c.loop-process.invariant in
+    ap₂ (λ v f. let s : Scenario = record { values = v; faults = f } in s) invariant.values
+    (fill_by_all (λ p. get_or c.args.self.now.low p 0) c.loop-process.least.faults c.args.processes 0 invariant.long
+    (λ p below. invariant.written p (omega arith)))

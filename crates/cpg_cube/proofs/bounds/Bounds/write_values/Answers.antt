@@ -10,8 +10,8 @@ use Rattle.cpg_cube.proofs.bounds.Bounds.write_values.Goals as goal
 -- every value was written in the loop, and the faults have stayed, so the scenario has all values
 pub returns : goal.returns
 returns c =
-    let i = c.loop-condition.invariant in
+    let invariant = c.loop-condition.invariant in
     ap₂ (λ v f. let s : Scenario = record { values = v; faults = f } in s)
     (fill_by_all (λ d. nat_lt 0 (get_or c.args.self.now.low (value_variable d) 0)) c.loop-condition.least.values
-    c.args.conditions false i.long (λ d h. i.written d (omega arith)))
-    i.faults
+    c.args.conditions false invariant.long (λ d below. invariant.written d (omega arith)))
+    invariant.faults

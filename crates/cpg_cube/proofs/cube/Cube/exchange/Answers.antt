@@ -17,13 +17,15 @@ returns-then-left-clause-none c =
 -- the variables still rise, as the literal set at the place is on the variable of the one before
 pub invariant_of-self : goal.invariant_of-self
 invariant_of-self c =
-    let xs = c.self.inside.literals.items in
+    let literals = c.self.inside.literals.items in
     -- the list after the literal is written through the borrowed slice
     let written : slice_set c.as_mut_slice.result.now c.args.narrowed.place c.left-left.result
-    ≡ slice_set xs c.args.narrowed.place c.left-left.result = rw c.as_mut_slice.ensures.value refl in
-    let filled : refill (length xs) xs (slice_set c.as_mut_slice.result.now c.args.narrowed.place c.left-left.result)
+    ≡ slice_set literals c.args.narrowed.place c.left-left.result = rw c.as_mut_slice.ensures.value refl in
+    let filled : refill (length literals) literals
+    (slice_set c.as_mut_slice.result.now c.args.narrowed.place c.left-left.result)
     ≡ slice_set c.args.self.now c.args.narrowed.place c.left-left.result =
-    rw written (items-with_items c.self.inside.literals _ (length-set xs c.args.narrowed.place c.left-left.result))
+    rw written (items-with_items c.self.inside.literals _
+    (length-set literals c.args.narrowed.place c.left-left.result))
     ∙ ap (λ ys. slice_set ys c.args.narrowed.place c.left-left.result) c.self.view_is in
     subst IsRising (sym filled) (rising_exchanged c.args.literal c.args.self.now (subst IsRising c.self.view_is
     c.self.invariant) c.args.narrowed c.requires.place c.requires.on c.left-left.result
@@ -32,13 +34,15 @@ invariant_of-self c =
 -- a number of the variable is left, so the cube as it was, with the literal, is the new cube
 pub returns-clause-narrowed : goal.returns-clause-narrowed
 returns-clause-narrowed c =
-    let xs = c.self.inside.literals.items in
+    let literals = c.self.inside.literals.items in
     -- the list after the literal is written through the borrowed slice
     let written : slice_set c.as_mut_slice.result.now c.args.narrowed.place c.left-left.result
-    ≡ slice_set xs c.args.narrowed.place c.left-left.result = rw c.as_mut_slice.ensures.value refl in
-    let filled : refill (length xs) xs (slice_set c.as_mut_slice.result.now c.args.narrowed.place c.left-left.result)
+    ≡ slice_set literals c.args.narrowed.place c.left-left.result = rw c.as_mut_slice.ensures.value refl in
+    let filled : refill (length literals) literals
+    (slice_set c.as_mut_slice.result.now c.args.narrowed.place c.left-left.result)
     ≡ slice_set c.args.self.now c.args.narrowed.place c.left-left.result =
-    rw written (items-with_items c.self.inside.literals _ (length-set xs c.args.narrowed.place c.left-left.result))
+    rw written (items-with_items c.self.inside.literals _
+    (length-set literals c.args.narrowed.place c.left-left.result))
     ∙ ap (λ ys. slice_set ys c.args.narrowed.place c.left-left.result) c.self.view_is in
     let some : c.left-left.result.low ≤ c.left-left.result.high = omega (arith, c.if-left.false) in
     some_exchanged c.args.literal c.args.self.now (subst IsRising c.self.view_is c.self.invariant) c.args.narrowed
@@ -48,13 +52,15 @@ returns-clause-narrowed c =
 -- the narrowing leads from the new cube back to the cube as it was
 pub returns-clause-undo : goal.returns-clause-undo
 returns-clause-undo c =
-    let xs = c.self.inside.literals.items in
+    let literals = c.self.inside.literals.items in
     -- the list after the literal is written through the borrowed slice
     let written : slice_set c.as_mut_slice.result.now c.args.narrowed.place c.left-left.result
-    ≡ slice_set xs c.args.narrowed.place c.left-left.result = rw c.as_mut_slice.ensures.value refl in
-    let filled : refill (length xs) xs (slice_set c.as_mut_slice.result.now c.args.narrowed.place c.left-left.result)
+    ≡ slice_set literals c.args.narrowed.place c.left-left.result = rw c.as_mut_slice.ensures.value refl in
+    let filled : refill (length literals) literals
+    (slice_set c.as_mut_slice.result.now c.args.narrowed.place c.left-left.result)
     ≡ slice_set c.args.self.now c.args.narrowed.place c.left-left.result =
-    rw written (items-with_items c.self.inside.literals _ (length-set xs c.args.narrowed.place c.left-left.result))
+    rw written (items-with_items c.self.inside.literals _
+    (length-set literals c.args.narrowed.place c.left-left.result))
     ∙ ap (λ ys. slice_set ys c.args.narrowed.place c.left-left.result) c.self.view_is in
     undo_exchanged c.args.literal c.args.self.now (subst IsRising c.self.view_is c.self.invariant) c.args.narrowed
     c.requires.place c.requires.on c.left-left.result c.left-left.ensures _ filled

@@ -9,17 +9,17 @@ use Rattle.cpg_cube.proofs.cube.Cube.least.Goals as goal
 -- a cube that isn't met matches no scenario of the graph
 pub returns-then-not-is_met-clause-first : goal.returns-then-not-is_met-clause-first
 returns-then-not-is_met-clause-first c order =
-    let g = c.args.problem.now in
+    let graph = c.args.problem.now in
     -- this cube is a cube of the graph: its variables rise, and each is one of the graph's
-    let is : IsCube g c.args.self.now = record { rising = c.is_met.ensures.rising; known = c.requires.known } in
-    let met : is_met g.faults c.args.self.now ≡ false = search rules in
-    unmatched g c.faults.ensures.within c.args.self.now is met
+    let is : IsCube graph c.args.self.now = record { rising = c.is_met.ensures.rising; known = c.requires.known } in
+    let met : is_met graph.faults c.args.self.now ≡ false = search rules in
+    unmatched graph c.faults.ensures.within c.args.self.now is met
 
 -- a cube that is met matches the scenario of its lows, and none is before that in any order
 pub returns-clause-first : goal.returns-clause-first
 returns-clause-first c order =
-    let g = c.args.problem.now in
+    let graph = c.args.problem.now in
     -- this cube is a cube of the graph: its variables rise, and each is one of the graph's
-    let is : IsCube g c.args.self.now = record { rising = c.is_met.ensures.rising; known = c.requires.known } in
-    let met : is_met g.faults c.args.self.now ≡ true = search rules in
-    rw c.in_ok-least.ensures (lows-least g c.faults.ensures.within.few_processes c.args.self.now is met order)
+    let is : IsCube graph c.args.self.now = record { rising = c.is_met.ensures.rising; known = c.requires.known } in
+    let met : is_met graph.faults c.args.self.now ≡ true = search rules in
+    rw c.in_ok-least.ensures (lows-least graph c.faults.ensures.within.few_processes c.args.self.now is met order)

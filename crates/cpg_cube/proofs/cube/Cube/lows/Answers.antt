@@ -8,4 +8,4 @@ use Rattle.cpg_cube.proofs.cube.Cube.lows.Goals as goal
 pub returns : goal.returns
 returns c = c.write_lows.ensures.lows ∙ same_scenario c.args.problem.now c.write_lows.ensures.within
     (λ v. get_or c.of.result.low v 0) (low_in c.args.self.now)
-    (λ v h. rw c.literals.ensures.literals at c.of.ensures.low v h)
+    (λ v small. rw c.literals.ensures.literals at c.of.ensures.low v small)

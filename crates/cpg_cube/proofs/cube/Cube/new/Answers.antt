@@ -7,7 +7,7 @@ use Rattle.cpg_cube.proofs.cube.Cube.new.Goals as goal
 -- the variables don't rise, so the literals are those of no cube
 pub returns-then-not-do_variables_rise-clause-refused : goal.returns-then-not-do_variables_rise-clause-refused
 returns-then-not-do_variables_rise-clause-refused c rising = both_ways _ c.if-not-do_variables_rise.true
-    (c.do_variables_rise.ensures ∙ rises_by 0 c.args.literals.now rising (λ l k. omega arith))
+    (c.do_variables_rise.ensures ∙ rises_by 0 c.args.literals.now rising (λ l member. omega arith))
 
 -- the variables rise, as the test says
 pub returns-clause-rising : goal.returns-clause-rising

@@ -8,8 +8,8 @@ use Rattle.cpg_cube.proofs.cube.Cube.with.Goals as goal
 -- the range left is empty, so no scenario matches the cube and the literal
 pub returns-then-left-clause-none : goal.returns-then-left-clause-none
 returns-then-left-clause-none c s =
-    let e : with_literal c.args.literal c.args.self.now ≡ None = search rules in
-    with-none s c.args.literal c.args.self.now e
+    let none_left : with_literal c.args.literal c.args.self.now ≡ None = search rules in
+    with-none s c.args.literal c.args.self.now none_left
 
 -- the new cube matches where the old one does and the literal holds
 pub returns-clause-both : goal.returns-clause-both

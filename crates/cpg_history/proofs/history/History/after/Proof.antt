@@ -24,8 +24,8 @@ stayed = (stay_dropped _ yes, (stay_dropped _ yes, tt))
 -- `after` keeps its contract in every model of the machine
 pub after_spec : {M : Type 1} → statement M
 after_spec 𝓤 𝓛 𝓜 𝓡 wired =
-    let c = f.clauses 𝓛 𝓜.mem 𝓡.returns in let W = walk_of 𝓛 f.ended stayed c in
-    proved 𝓛 f.ended stayed c 𝓜 𝓡 (
+    let clauses = f.clauses 𝓛 𝓜.mem 𝓡.returns in let W = walk_of 𝓛 f.ended stayed clauses in
+    proved 𝓛 f.ended stayed clauses 𝓜 𝓡 (
       Goes-dropped 𝓛 3 (RefOf (0 ∷ []) tt (plain (λ _. R)) (λ _. tt)) yes (λ κs x w. refl),
       (
         Goes-dropped 𝓛 3 (RefOf (1 ∷ []) tt (plain (λ κs. E.the_row (named_lft 3 2 tt κs))) (λ _. tt)) yes
@@ -37,19 +37,19 @@ after_spec 𝓤 𝓛 𝓜 𝓡 wired =
     (λ κs. (shr_vals, (shr_vals, tt)))
     (λ κs. (shr_Tells (named 0) κs.0 R, (shr_Tells (named 1) κs.1.0 (E.the_row (named_lft 3 2 tt κs)), tt)))
     (λ κs qs bounds a _ are.
-    let y : W.Ghost = ((κs, qs, bounds, a, (shr_vals a.0, (shr_vals a.1.0, tt))), tt) in
+    let arguments : W.Ghost = ((κs, qs, bounds, a, (shr_vals a.0, (shr_vals a.1.0, tt))), tt) in
     let past : List Fetch = after a.1.0.now a.0.now in
     let seen : (inner : Inside) × ((inner.fetches ≡ past) × Unit {0}) =
     (record { made = tt; fetches = past }, (refl, tt)) in
     -- the machine's steps: it enters, makes the struct of one empty field, returns it, and frees what it allocated
-    qed 𝓛 ((raw (alive 𝓛 f.signature κs qs) ⊛ ‵ (owns (types_at f.signature.params κs) a y.0.4))
-    ∷ raw ((c κs a).requires tt) ∷ []) ∵
+    qed 𝓛 ((raw (alive 𝓛 f.signature κs qs) ⊛ ‵ (owns (types_at f.signature.params κs) a arguments.0.4))
+    ∷ raw ((clauses κs a).requires tt) ∷ []) ∵
     keep ! (0 ∷ []) $ split ! $ keep ! (0 ∷ []) $
     enter ! _ _ _ _ _ $ alloc_all ! (λ l. pass_all ! refl ((tt, tt), ((tt, tt), tt)) $
     sets ! (agg ! (and_then ! (unit_lit !) (no_more !))) refl (tt, (tt, tt)) $
     returns ! (look_at ! 0 refl) $ free_all ! refl $
     -- what is returned has to be a struct with this history
-    suffices ! _ (ends_at 𝓛 f.ended stayed c y empty past (tt, (tt, tt)) (tt, (tt, tt))) $ says ! refl $
+    suffices ! _ (ends_at 𝓛 f.ended stayed clauses arguments empty past (tt, (tt, tt)) (tt, (tt, tt))) $ says ! refl $
     nothing ! $ nothing ! $ owned ! fields.the_row _ (makes fields.the_type (λ _ _. tt, tt) 𝓛)
     (record { made = tt }) (empty ∷ []) (
       (vunit ∷ [], tt),

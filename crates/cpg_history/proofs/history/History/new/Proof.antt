@@ -20,24 +20,24 @@ stayed = tt
 -- `new` keeps its contract in every model of the machine
 pub new_spec : {M : Type 1} → statement M
 new_spec 𝓤 𝓛 𝓜 𝓡 wired =
-    let c = f.clauses 𝓛 𝓜.mem 𝓡.returns in let W = walk_of 𝓛 f.ended stayed c in
-    proved 𝓛 f.ended stayed c 𝓜 𝓡 tt
+    let clauses = f.clauses 𝓛 𝓜.mem 𝓡.returns in let W = walk_of 𝓛 f.ended stayed clauses in
+    proved 𝓛 f.ended stayed clauses 𝓜 𝓡 tt
     f.Key.name code.function (code.unfolded 𝓤 𝓛.H 𝓜 𝓡 wired)
     (λ κs. tt) (λ κs. tt) (λ κs qs bounds a _ are.
-    let y : W.Ghost = ((κs, qs, bounds, a, tt), tt) in
+    let arguments : W.Ghost = ((κs, qs, bounds, a, tt), tt) in
     -- the history of the new struct is empty
     let past : List Fetch = [] in
     let seen : (inner : Inside) × ((inner.fetches ≡ past) × Unit {0}) =
     (record { made = tt; fetches = past }, (refl, tt)) in
     -- the machine's steps: it enters, makes the struct of one empty field, returns it, and frees what it allocated
     qed 𝓛 ((raw (alive 𝓛 f.signature κs qs) ⊛ ‵ (owns (types_at f.signature.params κs) a tt))
-    ∷ raw ((c κs a).requires tt) ∷ []) ∵
+    ∷ raw ((clauses κs a).requires tt) ∷ []) ∵
     keep ! (0 ∷ []) $ split ! $ keep ! (0 ∷ []) $
     enter ! _ _ _ _ _ $ alloc_all ! (λ l. pass_all ! refl tt $
     sets ! (agg ! (and_then ! (unit_lit !) (no_more !))) refl (tt, (tt, tt)) $
     returns ! (look_at ! 0 refl) $ free_all ! refl $
     -- what is returned has to be a struct with this history
-    suffices ! _ (ends_at 𝓛 f.ended stayed c y empty past tt tt) $ says ! refl $
+    suffices ! _ (ends_at 𝓛 f.ended stayed clauses arguments empty past tt tt) $ says ! refl $
     nothing ! $ nothing ! $ owned ! fields.the_row _ (makes fields.the_type (λ _ _. tt, tt) 𝓛)
     (record { made = tt }) (empty ∷ []) (
       (vunit ∷ [], tt),

@@ -65,16 +65,16 @@ returns-clause-piece g c =
       piece = piece;
       long = search rules;
       gave = search rules;
-      state = ap (λ (t : NodeTable). let f : Follower =
+      state = ap (λ (t : NodeTable). let with_table : Follower =
           record {
             head = c.self.inside.head;
             table = t;
             live = c.feed.new.self;
             told = c.self.inside.told;
             read = c.self.inside.read + c.in_ok-count.count;
-          } in f) same
-          ∙ ap (λ (f : Follower). let h : Follower =
-          record f { live = c.feed.new.self; read = f.read + c.in_ok-count.count } in h) c.self.view_is;
+          } in with_table) same
+          ∙ ap (λ (f : Follower). let with_piece : Follower =
+          record f { live = c.feed.new.self; read = f.read + c.in_ok-count.count } in with_piece) c.self.view_is;
       few = search rules;
       fed = subst (λ l. Feeds l piece c.feed.new.self)
           (ap (λ (f : Follower). f.live) c.self.view_is) c.feed.ensures.whole;

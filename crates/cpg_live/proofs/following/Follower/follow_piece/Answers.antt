@@ -21,7 +21,7 @@ returns-in_default-clause-along g c start name past a =
 -- the sink met a fault, so a part of the lines was written and the stream is cut off
 pub returns-then-is_err-clause-along : goal.returns-then-is_err-clause-along
 returns-then-is_err-clause-along g c start name past a =
-    let f = c.args.self.now in
+    let before = c.args.self.now in
     -- the follower after the piece, the shelf before and after it, and what `out` had taken before its lines and after them
     let fed = c.feed_piece.new.self in
     let shelf = g.S.Shelf.state c.args.shelf.now in
@@ -29,7 +29,7 @@ returns-then-is_err-clause-along g c start name past a =
     let taken_before = (g.O.Sink.state c.args.out.now).taken in
     let taken_after = (g.O.Sink.state c.tell.new.out).taken in
     -- the fetch of the stream and the state after the piece
-    let along = fed_on name past shelf rest c.in-Ok.fed.count start taken_before f fed a c.in-Ok.ensures.piece in
+    let along = fed_on name past shelf rest c.in-Ok.fed.count start taken_before before fed a c.in-Ok.ensures.piece in
     let failed : is_err c.tell.result ≡ true = search rules in
     -- the sink has counted a fault, and took a proper prefix of the lines
     record {
@@ -38,8 +38,10 @@ returns-then-is_err-clause-along g c start name past a =
       history_is = along.history_is;
       is = (
         on_err c.tell.result failed c.tell.ensures.cause.failed,
-        fed_cut name past rest.history start taken_before taken_after f.head f.table f.live.progress.acts f.told fed.read fed.live along
-            (subst (TookPrefix taken_before taken_after) (lines_told shelf rest f fed c.in-Ok.fed.count c.in-Ok.ensures.piece)
+        fed_cut name past rest.history start taken_before taken_after before.head before.table
+            before.live.progress.acts before.told fed.read fed.live along
+            (subst (TookPrefix taken_before taken_after) (lines_told shelf rest before fed c.in-Ok.fed.count
+            c.in-Ok.ensures.piece)
             (on_err c.tell.result failed c.tell.ensures.part)),
       );
     }
@@ -47,7 +49,7 @@ returns-then-is_err-clause-along g c start name past a =
 -- the piece has a lawless record, so the stream is refused by it, and all lines before are written
 pub returns-in-Some-clause-along : goal.returns-in-Some-clause-along
 returns-in-Some-clause-along g c start name past a =
-    let f = c.args.self.now in
+    let before = c.args.self.now in
     -- the follower after the piece, the shelf before and after it, and what `out` had taken before its lines and after them
     let fed = c.feed_piece.new.self in
     let shelf = g.S.Shelf.state c.args.shelf.now in
@@ -55,7 +57,7 @@ returns-in-Some-clause-along g c start name past a =
     let taken_before = (g.O.Sink.state c.args.out.now).taken in
     let taken_after = (g.O.Sink.state c.tell.new.out).taken in
     -- the fetch of the stream and the state after the piece
-    let along = fed_on name past shelf rest c.in-Ok.fed.count start taken_before f fed a c.in-Ok.ensures.piece in
+    let along = fed_on name past shelf rest c.in-Ok.fed.count start taken_before before fed a c.in-Ok.ensures.piece in
     -- all lines were written, and the piece has a lawless record
     let told_all : is_err c.tell.result ≡ false = search rules in
     let lawless : fed.live.lawless ≡ Some c.in-Some.lawless = search rules in
@@ -65,14 +67,17 @@ returns-in-Some-clause-along g c start name past a =
       named = along.named;
       history_is = along.history_is;
       is = (
-        act_lines f.head fed.live.progress.acts,
-        fed_lawless name past rest.history start taken_before taken_after f.head f.table f.live.progress.acts f.told fed.read fed.live along
+        act_lines before.head fed.live.progress.acts,
+        fed_lawless name past rest.history start taken_before taken_after before.head before.table
+            before.live.progress.acts before.told fed.read fed.live along
             c.in-Some.lawless lawless,
         record {
           faultless = on_ok c.tell.result told_all c.tell.ensures.cause.kept;
           taken =
-              wrote_all name past rest.history start taken_before taken_after f.head f.table f.live.progress.acts f.told fed.read fed.live along
-              (subst (Took taken_before taken_after) (lines_told shelf rest f fed c.in-Ok.fed.count c.in-Ok.ensures.piece)
+              wrote_all name past rest.history start taken_before taken_after before.head before.table
+              before.live.progress.acts before.told fed.read fed.live along
+              (subst (Took taken_before taken_after) (lines_told shelf rest before fed c.in-Ok.fed.count
+              c.in-Ok.ensures.piece)
               (on_ok c.tell.result told_all c.tell.ensures.whole));
         },
       );
@@ -81,7 +86,7 @@ returns-in-Some-clause-along g c start name past a =
 -- the piece goes past the limit, so the stream is too long, and all lines are written
 pub returns-then-self-gt-STREAM_LIMIT-clause-along : goal.returns-then-self-gt-STREAM_LIMIT-clause-along
 returns-then-self-gt-STREAM_LIMIT-clause-along g c start name past a =
-    let f = c.args.self.now in
+    let before = c.args.self.now in
     -- the follower after the piece, the shelf before and after it, and what `out` had taken before its lines and after them
     let fed = c.feed_piece.new.self in
     let shelf = g.S.Shelf.state c.args.shelf.now in
@@ -89,7 +94,7 @@ returns-then-self-gt-STREAM_LIMIT-clause-along g c start name past a =
     let taken_before = (g.O.Sink.state c.args.out.now).taken in
     let taken_after = (g.O.Sink.state c.tell.new.out).taken in
     -- the fetch of the stream and the state after the piece
-    let along = fed_on name past shelf rest c.in-Ok.fed.count start taken_before f fed a c.in-Ok.ensures.piece in
+    let along = fed_on name past shelf rest c.in-Ok.fed.count start taken_before before fed a c.in-Ok.ensures.piece in
     -- all lines were written, no record is lawless, and the bytes are more than the limit
     let told_all : is_err c.tell.result ≡ false = search rules in
     let none : fed.live.lawless ≡ None = search rules in
@@ -101,14 +106,17 @@ returns-then-self-gt-STREAM_LIMIT-clause-along g c start name past a =
       named = along.named;
       history_is = along.history_is;
       is = (
-        act_lines f.head fed.live.progress.acts,
-        fed_long name past rest.history start taken_before taken_after f.head f.table f.live.progress.acts f.told fed.read
+        act_lines before.head fed.live.progress.acts,
+        fed_long name past rest.history start taken_before taken_after before.head before.table
+            before.live.progress.acts before.told fed.read
             fed.live along none over,
         record {
           faultless = on_ok c.tell.result told_all c.tell.ensures.cause.kept;
           taken =
-              wrote_all name past rest.history start taken_before taken_after f.head f.table f.live.progress.acts f.told fed.read fed.live along
-              (subst (Took taken_before taken_after) (lines_told shelf rest f fed c.in-Ok.fed.count c.in-Ok.ensures.piece)
+              wrote_all name past rest.history start taken_before taken_after before.head before.table
+              before.live.progress.acts before.told fed.read fed.live along
+              (subst (Took taken_before taken_after) (lines_told shelf rest before fed c.in-Ok.fed.count
+              c.in-Ok.ensures.piece)
               (on_ok c.tell.result told_all c.tell.ensures.whole));
         },
       );
@@ -117,7 +125,7 @@ returns-then-self-gt-STREAM_LIMIT-clause-along g c start name past a =
 -- the piece is lawful and within the limit, so the follower is along the stream, with all lines written
 pub returns-clause-along : goal.returns-clause-along
 returns-clause-along g c start name past a =
-    let f = c.args.self.now in
+    let before = c.args.self.now in
     -- the follower after the piece, the shelf before and after it, and what `out` had taken before its lines and after them
     let fed = c.feed_piece.new.self in
     let shelf = g.S.Shelf.state c.args.shelf.now in
@@ -128,9 +136,9 @@ returns-clause-along g c start name past a =
     let none : fed.live.lawless ≡ None = search rules in
     let read : c.self.inside.read ≡ fed.read = ap (λ (f : Follower). f.read) (c.self.view_is ∙ c.tell.ensures.state) in
     let within : fed.read ≤ STREAM_LIMIT = omega (arith, c.if-self-gt-STREAM_LIMIT.false, read) in
-    along_at name past shelf rest c.in-Ok.fed.count start taken_before taken_after f fed c.tell.new.self a
+    along_at name past shelf rest c.in-Ok.fed.count start taken_before taken_after before fed c.tell.new.self a
     c.in-Ok.ensures.piece none within
-    (subst (Took taken_before taken_after) (lines_told shelf rest f fed c.in-Ok.fed.count c.in-Ok.ensures.piece)
+    (subst (Took taken_before taken_after) (lines_told shelf rest before fed c.in-Ok.fed.count c.in-Ok.ensures.piece)
     (on_ok c.tell.result told_all c.tell.ensures.whole)) c.tell.ensures.state
 
 -- a piece that can't be read leaves the follower as it was

@@ -11,8 +11,8 @@ returns-clause-whole c = feeds c.args.self.now c.take_bytes.new.self c.args.piec
 
 -- no byte takes acts away, so the old acts come first among the new ones
 pub returns-clause-grows : goal.returns-clause-grows
-returns-clause-grows c = let g = bytes_grow c.args.self.now c.args.piece.now in
-    (g.0, ap (λ (s : LiveState). s.progress.acts) c.take_bytes.ensures ∙ g.1)
+returns-clause-grows c = let grown = bytes_grow c.args.self.now c.args.piece.now in
+    (grown.0, ap (λ (s : LiveState). s.progress.acts) c.take_bytes.ensures ∙ grown.1)
 
 -- after a lawless record no byte changes anything
 pub returns-clause-kept : goal.returns-clause-kept

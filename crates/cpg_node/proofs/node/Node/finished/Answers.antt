@@ -16,23 +16,24 @@ runs c = with_items_is c.self.inside.running c.note_report.new.running (omega ar
 -- a report changes what runs, but no start and no possible end, so the next instant stays
 pub invariant_of-self : goal.invariant_of-self
 invariant_of-self c =
-    let n = c.self.inside in
+    let inside = c.self.inside in
     record {
       made = c.self.invariant.made;
       -- there is still one for each process, with the same start
       count =
-          ap length (runs c) ∙ length_zip (with_report c.args.ended) n.table.own n.running.items c.self.invariant.count;
+          ap length (runs c) ∙ length_zip (with_report c.args.ended) inside.table.own inside.running.items
+          c.self.invariant.count;
       mirror = c.self.invariant.mirror;
       starts = subst AreTimed (sym (runs c))
-          (timed_reported c.args.ended n.table.own n.running.items c.self.invariant.starts);
+          (timed_reported c.args.ended inside.table.own inside.running.items c.self.invariant.starts);
       planned = c.self.invariant.planned;
       early = c.self.invariant.early;
       entries = c.self.invariant.entries;
       times = c.self.invariant.times;
       instants = c.self.invariant.instants;
       next = c.self.invariant.next ∙ sym (ap (λ (r : List (Option Running)).
-          next (record { table = n.table; heard = n.heard.items; running = r; last = n.last })) (runs c) ∙
-          next_reported c.args.ended n.table n.heard.items n.running.items n.last);
+          next (record { table = inside.table; heard = inside.heard.items; running = r; last = inside.last })) (runs c)
+          ∙ next_reported c.args.ended inside.table inside.heard.items inside.running.items inside.last);
       room = c.self.invariant.room;
       due_room = c.self.invariant.due_room;
     }

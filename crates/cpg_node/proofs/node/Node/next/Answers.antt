@@ -12,6 +12,7 @@ if_each (Some t) h = h t refl
 -- an instant is a time of the table or an end, and starts and durations are below 2 ^ 60
 pub returns-clause-early : goal.returns-clause-early
 returns-clause-early c =
-    let n = c.self.inside in
-    let v = c.self.invariant in
-    if_each n.next (λ t e. next_early n.table n.heard.items n.running.items n.last t v.made v.starts (sym v.next ∙ e))
+    let inside = c.self.inside in
+    let invariant = c.self.invariant in
+    if_each inside.next (λ t e. next_early inside.table inside.heard.items inside.running.items inside.last t
+    invariant.made invariant.starts (sym invariant.next ∙ e))

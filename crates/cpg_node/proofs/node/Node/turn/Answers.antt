@@ -37,17 +37,17 @@ runs-8 c = with_items_is c.self.inside.running c.turn_executions.new.running (om
 -- what runs after the turn has started below 2 ^ 60: it ran before, or started at the time of an entry
 timed-8 : (c : goal.After-as_slice-8) → AreTimed (with_items c.self.inside.running c.turn_executions.new.running).items
 timed-8 c =
-    let n = c.self.inside in
-    let v = c.self.invariant in
+    let inside = c.self.inside in
+    let invariant = c.self.invariant in
     subst AreTimed (sym (runs-8 c))
     (timed_turn (c.args.ended.now ++ c.gather_due.new.due.items) c.gather_acts.new.acts.items c.in-Some.time
-    (early_turn n.table n.heard.items n.running.items n.last c.in-Some.time n.plan.items c.as_slice-3.result.now
-    c.deref.result.now n.plan_place c.past_entries-plan_end.result v.planned v.entries
-    (sym v.next ∙ c.in-Some.is)
+    (early_turn inside.table inside.heard.items inside.running.items inside.last c.in-Some.time inside.plan.items
+    c.as_slice-3.result.now c.deref.result.now inside.plan_place c.past_entries-plan_end.result invariant.planned
+    invariant.entries (sym invariant.next ∙ c.in-Some.is)
     c.as_slice-3.ensures.value c.deref.ensures.value c.past_entries-plan_end.ensures.within
     c.past_entries-plan_end.ensures.before c.past_entries-plan_end.ensures.here c.as_slice-4.result.now
-    c.gather_acts.new.acts.items c.gather_acts.ensures.acts v.early)
-    n.table.own n.running.items v.starts)
+    c.gather_acts.new.acts.items c.gather_acts.ensures.acts invariant.early)
+    inside.table.own inside.running.items invariant.starts)
 
 -- each start is below 2^60 after the turn (`timed-8`), so a duration can be added to it
 pub earliest_end-end-requires-clause-starts : goal.earliest_end-end-requires-clause-starts
@@ -84,71 +84,78 @@ left c =
 -- the plan, the times and the room are as before; the places move on, and the next instant is found anew
 pub invariant_of-self : goal.invariant_of-self
 invariant_of-self c =
-    let n = c.self.inside in
-    let v = c.self.invariant in
+    let inside = c.self.inside in
+    let invariant = c.self.invariant in
     record {
-      made = v.made;
+      made = invariant.made;
       -- there is one execution, or none, for each process, with starts below 2 ^ 60
       count = ap length (runs c) ∙ length_zip (running_after (c.args.ended.now ++ c.gather_due.new.due.items)
-          c.gather_acts.new.acts.items c.in-Some.time) n.table.own n.running.items v.count;
-      mirror = heard_length c ∙ v.mirror;
+          c.gather_acts.new.acts.items c.in-Some.time) inside.table.own inside.running.items invariant.count;
+      mirror = heard_length c ∙ invariant.mirror;
       starts = subst AreTimed (sym (runs c))
           (timed_turn (c.args.ended.now ++ c.gather_due.new.due.items) c.gather_acts.new.acts.items c.in-Some.time
-          (early_turn n.table n.heard.items n.running.items n.last c.in-Some.time n.plan.items c.as_slice-3.result.now
-          c.deref.result.now n.plan_place c.past_entries-plan_end.result v.planned
-          v.entries (sym v.next ∙ c.in-Some.is)
+          (early_turn inside.table inside.heard.items inside.running.items inside.last c.in-Some.time inside.plan.items
+          c.as_slice-3.result.now c.deref.result.now inside.plan_place c.past_entries-plan_end.result invariant.planned
+          invariant.entries (sym invariant.next ∙ c.in-Some.is)
           c.as_slice-3.ensures.value c.deref.ensures.value c.past_entries-plan_end.ensures.within
           c.past_entries-plan_end.ensures.before c.past_entries-plan_end.ensures.here c.as_slice-4.result.now
-          c.gather_acts.new.acts.items c.gather_acts.ensures.acts v.early)
-          n.table.own n.running.items v.starts);
-      planned = v.planned;
-      early = v.early;
+          c.gather_acts.new.acts.items c.gather_acts.ensures.acts invariant.early)
+          inside.table.own inside.running.items invariant.starts);
+      planned = invariant.planned;
+      early = invariant.early;
       -- the places of the plan and of the times move on to what is after the instant
-      entries = place_moves n.table n.heard.items n.running.items n.last c.in-Some.time n.plan.items
-          c.as_slice-3.result.now c.deref.result.now n.plan_place c.past_entries-plan_end.result v.planned
-          v.entries (sym v.next ∙ c.in-Some.is)
+      entries =
+          place_moves inside.table inside.heard.items inside.running.items inside.last c.in-Some.time inside.plan.items
+          c.as_slice-3.result.now c.deref.result.now inside.plan_place c.past_entries-plan_end.result invariant.planned
+          invariant.entries (sym invariant.next ∙ c.in-Some.is)
           c.as_slice-3.ensures.value c.deref.ensures.value c.past_entries-plan_end.ensures.within
           c.past_entries-plan_end.ensures.before c.past_entries-plan_end.ensures.here;
-      times = v.times;
+      times = invariant.times;
       instants = instants c;
       -- the next instant is the earlier of the next end and the next time
       next = c.earlier-self-inside.ensures ∙ ap₂ earlier (left c) (c.earliest_end-end.ensures
           ∙ ap₂ (λ (os : List Own) (rs : List (Option Running)). least_of (filter (is_after (Some c.in-Some.time))
           (flat_map (λ ends. ends) (zip_with possible_ends os rs)))) c.own-3.ensures.own
           c.as_slice-8.ensures.value)
-          ∙ sym (next_found n.table (with_items n.heard c.hear_all.new.heard).items
-          (with_items n.running c.turn_executions.new.running).items c.in-Some.time n.times.items
-          c.past_times-self-inside.result v.times (instants c));
-      room = omega (arith, v.room, c.gather_acts.ensures.room);
-      due_room = omega (arith, v.due_room, c.gather_due.ensures.room);
+          ∙ sym (next_found inside.table (with_items inside.heard c.hear_all.new.heard).items
+          (with_items inside.running c.turn_executions.new.running).items c.in-Some.time inside.times.items
+          c.past_times-self-inside.result invariant.times (instants c));
+      room = omega (arith, invariant.room, c.gather_acts.ensures.room);
+      due_room = omega (arith, invariant.due_room, c.gather_due.ensures.room);
     }
 
 -- the fields after the turn make the dispatcher after it, and the acts are those of the turn
-turned : (c : goal.After-self-6-1) → let n = c.self.inside in
-    (record { table = n.table; heard = (with_items n.heard c.hear_all.new.heard).items; running = (with_items n.running c.turn_executions.new.running).items; last = Some c.in-Some.time }
-    ≡ turn (dispatcher_of n) c.in-Some.time c.args.ended.now c.args.frames.now)
-    × (c.gather_acts.new.acts.items ≡ acts_of_turn (dispatcher_of n) c.in-Some.time c.args.ended.now c.args.frames.now)
+turned : (c : goal.After-self-6-1) → let inside = c.self.inside in
+    (record {
+      table = inside.table;
+      heard = (with_items inside.heard c.hear_all.new.heard).items;
+      running = (with_items inside.running c.turn_executions.new.running).items;
+      last = Some c.in-Some.time;
+    } ≡ turn (dispatcher_of inside) c.in-Some.time c.args.ended.now c.args.frames.now)
+    × (c.gather_acts.new.acts.items
+    ≡ acts_of_turn (dispatcher_of inside) c.in-Some.time c.args.ended.now c.args.frames.now)
 turned c =
-    let n = c.self.inside in
-    let v = c.self.invariant in
+    let inside = c.self.inside in
+    let invariant = c.self.invariant in
     -- the reports are those due (`gather_due`), the acts those of the entries of this instant (`acts_are`)
-    turn_is n.table n.heard.items n.running.items n.last c.in-Some.time c.args.ended.now c.gather_due.new.due.items
-    c.args.frames.now
-    (with_items n.heard c.hear_all.new.heard).items c.gather_acts.new.acts.items
-    (with_items n.running c.turn_executions.new.running).items
+    turn_is inside.table inside.heard.items inside.running.items inside.last c.in-Some.time
+    c.args.ended.now c.gather_due.new.due.items c.args.frames.now
+    (with_items inside.heard c.hear_all.new.heard).items c.gather_acts.new.acts.items
+    (with_items inside.running c.turn_executions.new.running).items
     (c.gather_due.ensures.reports ∙ ap₂ (λ (os : List Own) (rs : List (Option Running)).
     flat_map (λ es. es) (zip_with (due_reports_of c.in-Some.time) os rs)) c.own.ensures.own
     c.as_slice.ensures.value)
-    (with_items_is n.heard c.hear_all.new.heard (omega arith) ∙ cc)
-    (acts_are n.table n.heard.items n.running.items n.last c.in-Some.time n.plan.items c.as_slice-3.result.now
-    c.deref.result.now n.plan_place c.past_entries-plan_end.result v.planned v.entries
-    (sym v.next ∙ c.in-Some.is)
+    (with_items_is inside.heard c.hear_all.new.heard (omega arith) ∙ cc)
+    (acts_are inside.table inside.heard.items inside.running.items inside.last c.in-Some.time inside.plan.items
+    c.as_slice-3.result.now c.deref.result.now inside.plan_place c.past_entries-plan_end.result invariant.planned
+    invariant.entries (sym invariant.next ∙ c.in-Some.is)
     c.as_slice-3.ensures.value c.deref.ensures.value c.past_entries-plan_end.ensures.within
     c.past_entries-plan_end.ensures.before c.past_entries-plan_end.ensures.here
-    (with_items n.heard c.hear_all.new.heard).items c.gather_acts.new.acts.items
+    (with_items inside.heard c.hear_all.new.heard).items c.gather_acts.new.acts.items
     (c.gather_acts.ensures.acts ∙ ap (λ (h : List Range). map act_of
-    (filter (takes (n.table.sends ++ n.table.starts) h) (take (c.past_entries-plan_end.result - n.plan_place)
-    (drop n.plan_place c.deref.result.now)))) c.as_slice-4.ensures.value))
+    (filter (takes (inside.table.sends ++ inside.table.starts) h)
+    (take (c.past_entries-plan_end.result - inside.plan_place)
+    (drop inside.plan_place c.deref.result.now)))) c.as_slice-4.ensures.value))
     (runs c)
 
 -- the next instant is that of the dispatcher, so its turn leads to this state

@@ -8,10 +8,10 @@ use Rattle.cpg_order.proofs.links.Links.outputs.Goals as goal
 -- the list that is read is that of the process's outputs in the graph
 pub returns-clause-of_graph : goal.returns-clause-of_graph
 returns-clause-of_graph c g is =
-    let h : c.args.process < process_count g = subst (λ l. c.args.process < l.count) is c.requires in
+    let inside : c.args.process < process_count g = subst (λ l. c.args.process < l.count) is c.requires in
     let long : c.args.process < length c.self.inside.outputs.items =
     rw c.self.invariant (subst (λ l. c.args.process < l.count) (sym c.self.view_is) c.requires) in
     c.as_slice.ensures ∙ c.index.ensures
     ∙ get_or_default c.self.inside.outputs.items c.args.process c.index.result.now [] long
     ∙ ap (λ l. get_or l.outputs c.args.process []) (c.self.view_is ∙ is)
-    ∙ get_or-map-below (outputs g) (process_count g) c.args.process [] h
+    ∙ get_or-map-below (outputs g) (process_count g) c.args.process [] inside

@@ -11,28 +11,30 @@ use Rattle.cpg_table.proofs.tables.Tables.columns_of.Goals as goal
 pub returns-in-Some-clause-columns : goal.returns-in-Some-clause-columns
 returns-in-Some-clause-columns c =
     let ts = c.args.self.now.nodes in
-    let i = c.loop-table.table-index in
+    let index = c.loop-table.table-index in
     let same = c.as_slice-table-items.ensures.value ∙ ap (λ (t : Tables). t.nodes) c.self.view_is in
-    let within : i < length ts = subst (λ (xs : List NodeTable). i < length xs) same c.loop-table-test.true in
-    let table : c.table-item.result ≡ table_at ts i = c.table-item.is ∙ ap (λ xs. get_or xs i c.table-item.result) same
-    ∙ get_or_default ts i c.table-item.result empty_table within in
+    let within : index < length ts = subst (λ (xs : List NodeTable). index < length xs) same c.loop-table-test.true in
+    let table : c.table-item.result ≡ table_at ts index =
+    c.table-item.is ∙ ap (λ xs. get_or xs index c.table-item.result) same
+    ∙ get_or_default ts index c.table-item.result empty_table within in
     let found : row_columns c.table-item.result.starts c.args.item ≡ Some c.in-Some.columns.now = search rules in
-    found_start c.args.item ts i within c.loop-table.invariant c.in-Some.columns.now
+    found_start c.args.item ts index within c.loop-table.invariant c.in-Some.columns.now
     (subst (λ (t : NodeTable). row_columns t.starts c.args.item ≡ Some c.in-Some.columns.now) table found)
 
 -- this table has no start row of the item, but a send row
 pub returns-in-Some-row_columns-clause-columns : goal.returns-in-Some-row_columns-clause-columns
 returns-in-Some-row_columns-clause-columns c =
     let ts = c.args.self.now.nodes in
-    let i = c.loop-table.table-index in
+    let index = c.loop-table.table-index in
     let same = c.as_slice-table-items.ensures.value ∙ ap (λ (t : Tables). t.nodes) c.self.view_is in
-    let within : i < length ts = subst (λ (xs : List NodeTable). i < length xs) same c.loop-table-test.true in
-    let table : c.table-item.result ≡ table_at ts i = c.table-item.is ∙ ap (λ xs. get_or xs i c.table-item.result) same
-    ∙ get_or_default ts i c.table-item.result empty_table within in
+    let within : index < length ts = subst (λ (xs : List NodeTable). index < length xs) same c.loop-table-test.true in
+    let table : c.table-item.result ≡ table_at ts index =
+    c.table-item.is ∙ ap (λ xs. get_or xs index c.table-item.result) same
+    ∙ get_or_default ts index c.table-item.result empty_table within in
     let none : row_columns c.table-item.result.starts c.args.item ≡ None = search rules in
     let found : row_columns c.table-item.result.sends c.args.item ≡ Some c.in-Some-row_columns.columns.now =
     search rules in
-    found_send c.args.item ts i within c.loop-table.invariant c.in-Some-row_columns.columns.now
+    found_send c.args.item ts index within c.loop-table.invariant c.in-Some-row_columns.columns.now
     (subst (λ (t : NodeTable). row_columns t.starts c.args.item ≡ None) table none)
     (subst (λ (t : NodeTable). row_columns t.sends c.args.item ≡ Some c.in-Some-row_columns.columns.now) table found)
 
@@ -40,13 +42,14 @@ returns-in-Some-row_columns-clause-columns c =
 pub loop-table-preserved : goal.loop-table-preserved
 loop-table-preserved c =
     let ts = c.args.self.now.nodes in
-    let i = c.loop-table.table-index in
+    let index = c.loop-table.table-index in
     let same = c.as_slice-table-items.ensures.value ∙ ap (λ (t : Tables). t.nodes) c.self.view_is in
-    let within : i < length ts = subst (λ (xs : List NodeTable). i < length xs) same c.loop-table-test.true in
-    let table : c.table-item.result ≡ table_at ts i = c.table-item.is ∙ ap (λ xs. get_or xs i c.table-item.result) same
-    ∙ get_or_default ts i c.table-item.result empty_table within in
+    let within : index < length ts = subst (λ (xs : List NodeTable). index < length xs) same c.loop-table-test.true in
+    let table : c.table-item.result ≡ table_at ts index =
+    c.table-item.is ∙ ap (λ xs. get_or xs index c.table-item.result) same
+    ∙ get_or_default ts index c.table-item.result empty_table within in
     let none : row_columns c.table-item.result.starts c.args.item ≡ None = search rules in
     let none_sent : row_columns c.table-item.result.sends c.args.item ≡ None = search rules in
-    found_none c.args.item ts i within c.loop-table.invariant
+    found_none c.args.item ts index within c.loop-table.invariant
     (subst (λ (t : NodeTable). row_columns t.starts c.args.item ≡ None) table none)
     (subst (λ (t : NodeTable). row_columns t.sends c.args.item ≡ None) table none_sent)
