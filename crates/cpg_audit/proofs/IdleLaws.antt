@@ -28,25 +28,25 @@ use Rattle.cpg_log.specs.declared.log.Logged.{Logged}
 -- a column of a path has the path's value for its time, and its cube
 column_parts : (cube : List Literal) (time : Option ℕ) (c : Column) → Contains (column_of cube time) c →
     (time ≡ Some c.time) × (cube ≡ c.cube)
-column_parts cube None c j = absurd (Contains-nil c j)
-column_parts cube (Some n) c j = elim (Contains-cases (record { time = n; cube = cube }) [] c j) [
+column_parts cube None c there = absurd (Contains-nil c there)
+column_parts cube (Some n) c there = elim (Contains-cases (record { time = n; cube = cube }) [] c there) [
   | inl e ↦ (ap (λ (d : Column). Some d.time) e, ap (λ (d : Column). d.cube) e)
   | inr none ↦ absurd (Contains-nil c none)
 ]
 
 -- only an inactive item has an idle time
 idle_from : (active : Bool) (n : ℕ) → idle_time active ≡ Some n → not active ≡ true
-idle_from true n e = absurd (none-some n e)
-idle_from false n e = refl
+idle_from true n is = absurd (none-some n is)
+idle_from false n is = refl
 
 -- an inactive item has idle time 0
 idle_at : (active : Bool) → not active ≡ true → idle_time active ≡ Some 0
-idle_at true e = absurd (true_false (sym e))
+idle_at true holds = absurd (true_false (sym holds))
   where
     -- `true` isn't `false`: an item that is active isn't inactive
     true_false : true ≡ false → ⊥
-    true_false e = cc
-idle_at false e = refl
+    true_false conflict = cc
+idle_at false holds = refl
 
 -- given an item's idle times as a tree, and the tree's columns, in a scenario. `a`, `tree`, `active`: the tree that says
 -- where item `x` is active; `t`, `is`, `each`: its image, the tree of idle times; `columns`, `all`: the columns of `t`, in
@@ -62,35 +62,37 @@ module _ (g : Graph) (x : ℕ) (a : TreeState Bool) (tree : IsTree g a) (active 
   -- the value of a path that the scenario is on is the idle time of whether the item is active
   value : (z : Path (Option ℕ)) → IsOnPath t.paths s z → z.1 ≡ idle_time (item_active g s.values (item_at g x))
   value z on =
-      let y = the_path g.faults a.paths tree.each s few in
-      is.value s y.0 z (subst (λ k. HasAtMostFaults k s) (sym tree.faults) few) y.1 on
-      ∙ ap idle_time (active s y.0 law y.1)
+      let active_path = the_path g.faults a.paths tree.each s few in
+      is.value s active_path.0 z (subst (λ k. HasAtMostFaults k s) (sym tree.faults) few) active_path.1 on
+      ∙ ap idle_time (active s active_path.0 law active_path.1)
 
   -- if a column matches, the item isn't active: the column is of a path that the scenario is on, whose value is some
   -- time
   from_column : list_any (λ (c : Column). matches c.cube s) columns ≡ true →
       not (item_active g s.values (item_at g x)) ≡ true
-  from_column e =
-      let r = list_any_parts (λ (c : Column). matches c.cube s) columns e in
-      let back = Contains-permutation columns (columns_of_paths t.paths) r.0
-      (IsPermutation-sym (columns_of_paths t.paths) columns all) r.1 in
-      let p = Contains-flat_map_parts (λ (p : Path (Option ℕ)). column_of p.0 p.1) t.paths r.0 back in
-      let parts = column_parts p.0.0 p.0.1 r.0 p.2 in
-      idle_from (item_active g s.values (item_at g x)) r.0.time (sym (value p.0
-      (record { stands = p.1; matched = subst (λ (ls : List Literal). matches ls s ≡ true) (sym parts.1) r.2 }))
+  from_column some_match =
+      let column = list_any_parts (λ (c : Column). matches c.cube s) columns some_match in
+      let back = Contains-permutation columns (columns_of_paths t.paths) column.0
+      (IsPermutation-sym (columns_of_paths t.paths) columns all) column.1 in
+      let path = Contains-flat_map_parts (λ (p : Path (Option ℕ)). column_of p.0 p.1) t.paths column.0 back in
+      let parts = column_parts path.0.0 path.0.1 column.0 path.2 in
+      idle_from (item_active g s.values (item_at g x)) column.0.time (sym (value path.0
+      (record { stands = path.1; matched = subst (λ (ls : List Literal). matches ls s ≡ true) (sym parts.1) column.2 }))
       ∙ parts.0)
 
   -- if the item isn't active, the path that the scenario is on has time 0, so a column, and this matches
   to_column : not (item_active g s.values (item_at g x)) ≡ true →
       list_any (λ (c : Column). matches c.cube s) columns ≡ true
-  to_column e =
-      let z = the_path g.faults t.paths (subst (λ k. HasOnePathEach k t.paths) (is.faults ∙ tree.faults) each) s few in
-      let idle : Column = record { time = 0; cube = z.0.0 } in
-      let here : z.0.1 ≡ Some 0 = value z.0 z.1 ∙ idle_at (item_active g s.values (item_at g x)) e in
+  to_column is_idle =
+      let own_path = the_path g.faults t.paths
+      (subst (λ k. HasOnePathEach k t.paths) (is.faults ∙ tree.faults) each) s few in
+      let idle : Column = record { time = 0; cube = own_path.0.0 } in
+      let here : own_path.0.1 ≡ Some 0 = value own_path.0 own_path.1
+      ∙ idle_at (item_active g s.values (item_at g x)) is_idle in
       list_any_true (λ (c : Column). matches c.cube s) columns idle
       (Contains-permutation (columns_of_paths t.paths) columns idle all
-      (Contains-flat_map (λ (p : Path (Option ℕ)). column_of p.0 p.1) t.paths z.0 idle z.1.stands
-      (subst (λ o. Contains (column_of z.0.0 o) idle) (sym here) (Contains-first idle [])))) z.1.matched
+      (Contains-flat_map (λ (p : Path (Option ℕ)). column_of p.0 p.1) t.paths own_path.0 idle own_path.1.stands
+      (subst (λ o. Contains (column_of own_path.0.0 o) idle) (sym here) (Contains-first idle [])))) own_path.1.matched
 
   -- one of the columns matches exactly if the item isn't active
   pub idle_columns : list_any (λ (c : Column). matches c.cube s) columns ≡ not (item_active g s.values (item_at g x))
@@ -105,6 +107,6 @@ pub idle_more : (g : Graph) (s : Scenario) (acts : List Logged) (i : ℕ) (d : L
     → list_any (λ (c : Column). matches c.cube s) columns
     ≡ not (item_active g s.values (item_at g (get_or acts i d).item)) →
     list_any (λ (c : Column). matches c.cube s) (old ++ columns) ≡ is_some_idle g (take (i + 1) acts) s
-idle_more g s acts i d l old columns first second = list_any-append (λ (c : Column). matches c.cube s) old columns
+idle_more g s acts i d within old columns first second = list_any-append (λ (c : Column). matches c.cube s) old columns
     ∙ ap₂ (λ a b. a || b) first second
-    ∙ sym (list_any_more (λ (l : Logged). not (item_active g s.values (item_at g l.item))) acts i d l)
+    ∙ sym (list_any_more (λ (l : Logged). not (item_active g s.values (item_at g l.item))) acts i d within)

@@ -32,19 +32,19 @@ module _ (s : Scenario) (l : Literal) (off : holds s l ≡ false) where
   -- if the number of the literal's variable isn't below the literal's range, it is above it, up to `most`
   pub above_range : (most : ℕ) → l.low ≤ number_of s l.variable → number_of s l.variable ≤ most →
       holds s (record { variable = l.variable; low = l.high + 1; high = most }) ≡ true
-  above_range most h k = elim (cases_lt l.high (number_of s l.variable)) [
-    | inl above ↦ let m : Literal = record { variable = l.variable; low = l.high + 1; high = most } in
-        holds-from s m (omega (arith, above)) k
-    | inr within ↦ absurd (both_ways (holds s l) off (holds-from s l h within))
+  above_range most low_enough at_most = elim (cases_lt l.high (number_of s l.variable)) [
+    | inl above ↦ let upper : Literal = record { variable = l.variable; low = l.high + 1; high = most } in
+        holds-from s upper (omega (arith, above)) at_most
+    | inr within ↦ absurd (both_ways (holds s l) off (holds-from s l low_enough within))
   ]
 
   -- if the number of the literal's variable isn't above the literal's range, it is below it, from `least` on
   pub below_range : (least : ℕ) → least ≤ number_of s l.variable → number_of s l.variable ≤ l.high →
       holds s (record { variable = l.variable; low = least; high = l.low - 1 }) ≡ true
-  below_range least h k = elim (cases_lt (number_of s l.variable) l.low) [
-    | inl below ↦ let m : Literal = record { variable = l.variable; low = least; high = l.low - 1 } in
-        holds-from s m h (omega (arith, below))
-    | inr within ↦ absurd (both_ways (holds s l) off (holds-from s l within k))
+  below_range least at_least high_enough = elim (cases_lt (number_of s l.variable) l.low) [
+    | inl below ↦ let lower : Literal = record { variable = l.variable; low = least; high = l.low - 1 } in
+        holds-from s lower at_least (omega (arith, below))
+    | inr within ↦ absurd (both_ways (holds s l) off (holds-from s l within high_enough))
   ]
 
 -- ---- one cube more, from the last
@@ -165,24 +165,25 @@ module _ (space : Space) (ls : List Literal) (i : ℕ) (d : Literal) (within : i
     pub none_with_told : (o : Option Literal) →
         IfNone o ((s : Scenario) → IsInSpace space s → matches (take i ls) s ≡ true)
         → IfNone o ((s : Scenario) → IsInSpace space s → matches (take (i + 1) ls) s ≡ true)
-    none_with_told None h = λ s lies. same_with_told s lies ∙ h s lies
-    none_with_told (Some l) h = tt
+    none_with_told None if_none = λ s lies. same_with_told s lies ∙ if_none s lies
+    none_with_told (Some l) if_none = tt
 
     -- if there is an `o`, and the first `i` match in the space just where it holds, so do the first `i + 1`
     pub some_with_told : (o : Option Literal) →
         IfSome o (λ l. (s : Scenario) → IsInSpace space s → matches (take i ls) s ≡ holds s l) →
         IfSome o (λ l. (s : Scenario) → IsInSpace space s → matches (take (i + 1) ls) s ≡ holds s l)
-    some_with_told None h = tt
-    some_with_told (Some l) h = λ s lies. same_with_told s lies ∙ h s lies
+    some_with_told None if_some = tt
+    some_with_told (Some l) if_some = λ s lies. same_with_told s lies ∙ if_some s lies
 
   -- if there is no `o`, the first `i + 1` match in the space just where the literal at place `i` holds
   pub first_open : (o : Option Literal) → o ≡ None →
       IfNone o ((s : Scenario) → IsInSpace space s → matches (take i ls) s ≡ true) → (s : Scenario) →
       IsInSpace space s →
       matches (take (i + 1) ls) s ≡ holds s (get_or ls i d)
-  first_open o e h s lies =
+  first_open o is if_none s lies =
       let none : (s : Scenario) → IsInSpace space s → matches (take i ls) s ≡ true = subst
-      (λ (x : Option Literal). IfNone x ((s : Scenario) → IsInSpace space s → matches (take i ls) s ≡ true)) e h in
+      (λ (x : Option Literal). IfNone x ((s : Scenario) → IsInSpace space s →
+      matches (take i ls) s ≡ true)) is if_none in
       list_all_more (holds s) ls i d within ∙ ap (λ b. b && holds s (get_or ls i d)) (none s lies)
 
 -- ---- the cube of a space
@@ -192,7 +193,7 @@ module _ (g : Graph) (space : Space) where
   -- if `cube` has only ranges of the space on variables below `m`, they are such below `n` too, which is not less
   pub ranges_weaker : (m n : ℕ) → m ≤ n → (cube : List Literal) → All (IsRange g space m) cube →
       All (IsRange g space n) cube
-  ranges_weaker m n h cube all = All-weaker (IsRange g space m) (IsRange g space n)
+  ranges_weaker m n at_most cube all = All-weaker (IsRange g space m) (IsRange g space n)
       (λ l r. record { known = r.known; below = omega (arith, r.below); told = r.told }) cube all
 
   -- if `cube` has only ranges of the space, on variables below `n`, it matches each scenario `s` in the space
@@ -200,7 +201,8 @@ module _ (g : Graph) (space : Space) where
       IsInSpace space s →
       matches cube s ≡ true
   matches_space n cube all s lies = all_from (holds s) cube
-      (λ l c. let r : IsRange g space n l = All-contains (IsRange g space n) cube l all c in r.told s lies)
+      (λ l there. let range : IsRange g space n l = All-contains (IsRange g space n) cube l all
+      there in range.told s lies)
 
   -- a cube of ranges of a space is on variables of the graph
   pub known_ranges : (n : ℕ) (cube : List Literal) → All (IsRange g space n) cube → IsKnown g cube

@@ -15,7 +15,7 @@ use cpg_cube::Column;
 use cpg_expand::active_item;
 use cpg_log::Logged;
 use cpg_rules::Admitted;
-use cpg_tree::Tree;
+use cpg_tree::{OptionalTime, Tree};
 use cpg_tree_columns::columns;
 use std::alloc::Global;
 
@@ -28,12 +28,12 @@ fn idle_time(active: bool) -> Option<u64>
 
 /// The tree that has a time just where `active` is false, so that its columns match just there. The one error is
 /// `OutOfMemory`.
-fn idle(active: &Tree<bool>) -> Result<Tree<Option<u64>>, OutOfMemory>
+fn idle(active: &Tree<bool>) -> Result<Tree<OptionalTime>, OutOfMemory>
     ensures is { IfOk result (IsMap (λ x z. z ≡ idle_time x) active.now) }
     ensures each { IfOk result (λ t. HasOnePathEach t.faults t.paths) }
     ensures pass { IfOk result (λ t. (test : ℕ → Bool) → DoPathsPass test active.now.paths → DoPathsPass test t.paths) }
 {
-    active.map(&|active: bool| idle_time(active))
+    active.map(&|active: bool| OptionalTime::of(idle_time(active)))
 }
 
 /// Columns that match just in the scenarios in which an item isn't active. The one error is `OutOfMemory`.

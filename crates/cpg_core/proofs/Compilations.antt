@@ -39,7 +39,7 @@ built_valid g urgency order b is none = record {
     -- V9 is kept since nothing is late, and the other rules by any builder's tables
     kept : (rule : Rule) → Keeps rule g b.tables.nodes
     kept Rule.Due = is.due none
-    kept rule = is.rules rule (λ e. cc)
+    kept rule = is.rules rule (λ is_due. cc)
 
 -- nothing is late if no process is shown
 pub nothing_late : (g : Graph) (urgency order : List ℕ) (frozen : List (Option ℕ)) (peak : Peak) →
@@ -52,11 +52,11 @@ nothing_late g urgency order frozen peak is none =
 
 -- an end of a process is one of the list of all ends
 end_listed : (os : List (Option ℕ)) (p e : ℕ) → get_or os p None ≡ Some e → Contains (flat_map option_to_list os) e
-end_listed [] p e h = absurd (none-some e h)
-end_listed (o ∷ os) zero e h = Contains-append_left (option_to_list o) (flat_map option_to_list os) e
-    (subst (λ q. Contains (option_to_list q) e) (sym h) (Contains-first e []))
-end_listed (o ∷ os) (suc p) e h =
-    Contains-append_right (option_to_list o) (flat_map option_to_list os) e (end_listed os p e h)
+end_listed [] p e has_end = absurd (none-some e has_end)
+end_listed (o ∷ os) zero e has_end = Contains-append_left (option_to_list o) (flat_map option_to_list os) e
+    (subst (λ q. Contains (option_to_list q) e) (sym has_end) (Contains-first e []))
+end_listed (o ∷ os) (suc p) e has_end =
+    Contains-append_right (option_to_list o) (flat_map option_to_list os) e (end_listed os p e has_end)
 
 -- the end of the process that is shown, in the scenario that is shown
 module _ (g : Graph) (urgency order : List ℕ) (b : Grown) (is : IsGrownFor g urgency order b) (p : ℕ)
@@ -75,8 +75,8 @@ module _ (g : Graph) (urgency order : List ℕ) (b : Grown) (is : IsGrownFor g u
 
   -- an end that is past its due is there
   some_end : (o : Option ℕ) (d : ℕ) → 0 < unwrap_or o 0 - d → o ≡ Some (unwrap_or o 0)
-  some_end None d h = absurd (omega (arith, h))
-  some_end (Some e) d h = refl
+  some_end None d past = absurd (omega (arith, past))
+  some_end (Some e) d past = refl
 
   -- p ends there past its due by the excess
   end_is : end_in late_times p ≡ due g p + b.excess.time
@@ -90,13 +90,14 @@ module _ (g : Graph) (urgency order : List ℕ) (b : Grown) (is : IsGrownFor g u
   -- It has an end in the run, and there are no more ends than processes.
   pub late_process : p < process_count g
   late_process = elim (cases_lt p (length late_times.ends)) [
-    | inl lt ↦ omega (
+    | inl less ↦ omega (
       arith,
-      lt,
+      less,
       ap length late_run.ends,
       length-map-range_with_len (end_by g b.excess.scenario late_times) 0 (process_count g),
     )
-    | inr ge ↦ absurd (none-some (due g p + b.excess.time) (sym (get_or_past late_times.ends p None ge) ∙ late_end))
+    | inr not_less ↦ absurd (none-some (due g p + b.excess.time) (sym (get_or_past late_times.ends p None not_less)
+        ∙ late_end))
   ]
 
   -- The end of a late process is no later than the greatest finish.
@@ -143,22 +144,23 @@ found_measured g urgency order t is = record {
 -- an excess above 0 makes the order late
 pub late_under : (g : Graph) (urgency order : List ℕ) (t : Grown) → IsGrownFor g urgency order t → 0 < t.excess.time →
     IsLateUnder g urgency order
-late_under g urgency order t is l = (t.excess.time, t.worst.time, found_measured g urgency order t is, l)
+late_under g urgency order t is exceeds = (t.excess.time, t.worst.time, found_measured g urgency order t is, exceeds)
 
 -- if the tables have no excess, the order is in time
 pub in_time_under : (g : Graph) (urgency order : List ℕ) (b : Built) → IsBuiltFor g urgency order b → b.excess ≡ 0 →
     IsInTimeUnder g urgency order
-in_time_under g urgency order b is e =
-    (b.worst, subst (λ n. IsMeasured g urgency order n b.worst) e (measured g urgency order b is))
+in_time_under g urgency order b is no_excess =
+    (b.worst, subst (λ n. IsMeasured g urgency order n b.worst) no_excess (measured g urgency order b is))
 
 -- some process is shown if the excess is above 0
 pub some_shown : (g : Graph) (urgency order : List ℕ) (t : Grown) → IsGrownFor g urgency order t → 0 < t.excess.time →
     t.excess.process ≡ None → ⊥
-some_shown g urgency order t is l e = omega (arith, nothing_late g urgency order t.trees.frozen t.excess is.excess e)
+some_shown g urgency order t is exceeds no_process =
+    omega (arith, nothing_late g urgency order t.trees.frozen t.excess is.excess no_process)
 
 -- given: a well-formed graph without joins of two live inputs (`joins`), and its urgency order
 -- `first_top`: its first order is topological; `narrow`: if it gives no order, no item is too wide under that
-module _ (g : Graph) (w : WellFormed g) (urgency : List ℕ) (top : IsTopological g urgency)
+module _ (g : Graph) (well_formed : WellFormed g) (urgency : List ℕ) (top : IsTopological g urgency)
     (first_top : IsTopological g (first_order g urgency))
     (narrow : g.order ≡ None → IsNarrow g (first_order g urgency))
     (joins : HasSingleJoins g) (by : IsUrgencyOrder g urgency) where
@@ -166,11 +168,11 @@ module _ (g : Graph) (w : WellFormed g) (urgency : List ℕ) (top : IsTopologica
   pub compilation : (order : List ℕ) → IsCompileOrder g urgency order → (b : Built) → IsBuiltFor g urgency order b →
       DoTablesFit g b.tables.nodes → b.excess ≡ 0 →
       IsCompilation g urgency (record { built = b; order = order })
-  compilation order taken b built fit e = record {
-    compiled = record { narrow = narrow; taken = taken; in_time = in_time_under g urgency order b built e };
+  compilation order taken b built fit no_excess = record {
+    compiled = record { narrow = narrow; taken = taken; in_time = in_time_under g urgency order b built no_excess };
     built = built;
-    in_time = e;
-    valid = built_valid g urgency order b built e;
+    in_time = no_excess;
+    valid = built_valid g urgency order b built no_excess;
     fit = fit;
-    local = know_locally g w joins urgency by top first_top order taken b built;
+    local = know_locally g well_formed joins urgency by top first_top order taken b built;
   }

@@ -24,18 +24,18 @@ use Rattle.cpg_core.proofs.MeasuredFrom.{measured_from}
 pub figures_measure : (g : Graph) → WellFormed g → (urgency order : List ℕ) → IsTopological g order →
     (excess worst : ℕ) → HasFigures g order excess worst →
     IsMeasured g urgency order excess worst
-figures_measure g w urgency order top excess worst h =
-    measured_from g w urgency order top h.frozen h.times excess worst h.greatest
+figures_measure g well_formed urgency order top excess worst figures =
+    measured_from g well_formed urgency order top figures.frozen figures.times excess worst figures.greatest
 
 -- given: a well-formed graph whose urgency order and first order are topological
-module _ (g : Graph) (w : WellFormed g) (urgency : List ℕ) (top : IsTopological g urgency)
+module _ (g : Graph) (well_formed : WellFormed g) (urgency : List ℕ) (top : IsTopological g urgency)
     (first_top : IsTopological g (first_order g urgency)) where
   -- given: the figures of the first order
   module _ (narrow : g.order ≡ None → IsNarrow g (first_order g urgency)) (e v : ℕ)
       (has_figures : HasFigures g (first_order g urgency) e v) where
     -- the figures measure the first order
     own : IsMeasured g urgency (first_order g urgency) e v
-    own = figures_measure g w urgency (first_order g urgency) first_top e v has_figures
+    own = figures_measure g well_formed urgency (first_order g urgency) first_top e v has_figures
 
     -- the first order, as the order that is taken
     abbrev pub by_first : TakenOrder
@@ -44,31 +44,31 @@ module _ (g : Graph) (w : WellFormed g) (urgency : List ℕ) (top : IsTopologica
     -- the first order is taken if the graph gives one
     pub first_given : g.order ≢ None → IsTaken g urgency by_first
     first_given given = record {
-      taken = inr (refl, not_preferred_given g w urgency top first_top narrow e v own given);
+      taken = inr (refl, not_preferred_given g well_formed urgency top first_top narrow e v own given);
       measured = own;
       topological = tt;
       narrow = tt;
-      late = λ l. ((e, v, own, l), inl given);
+      late = λ exceeds. ((e, v, own, exceeds), inl given);
     }
 
     -- the first order is taken if the graph has many tracks
     pub first_many : HasManyTracks g → IsTaken g urgency by_first
     first_many many = record {
-      taken = inr (refl, not_preferred_many g w urgency top first_top narrow e v own many);
+      taken = inr (refl, not_preferred_many g well_formed urgency top first_top narrow e v own many);
       measured = own;
       topological = tt;
       narrow = tt;
-      late = λ l. ((e, v, own, l), inr (inl many));
+      late = λ exceeds. ((e, v, own, exceeds), inr (inl many));
     }
 
     -- the first order is taken if an item is too wide under the track order
     pub first_wide : (order : List ℕ) → HasTrackOrder g order → (x : ℕ) → IsWide g order x → IsTaken g urgency by_first
     first_wide order track x wide = record {
-      taken = inr (refl, not_preferred_wide g w urgency top first_top narrow e v own order track x wide);
+      taken = inr (refl, not_preferred_wide g well_formed urgency top first_top narrow e v own order track x wide);
       measured = own;
       topological = tt;
       narrow = tt;
-      late = λ l. ((e, v, own, l), inr (inr (order, track, inl (x, wide))));
+      late = λ exceeds. ((e, v, own, exceeds), inr (inr (order, track, inl (x, wide))));
     }
 
     -- given: the figures of the track order
@@ -76,18 +76,22 @@ module _ (g : Graph) (w : WellFormed g) (urgency : List ℕ) (top : IsTopologica
         (figures : HasFigures g order f u) where
       -- the figures measure the track order
       other : IsMeasured g urgency order f u
-      other = figures_measure g w urgency order order_top f u figures
+      other = figures_measure g well_formed urgency order order_top f u figures
 
       -- if the track order is no better, the first order is taken
       pub first_better : (IsBetter f u e v → ⊥) → IsTaken g urgency by_first
       -- the first order's figures are its own, and if it is late both orders are
       first_better worse = record {
-        taken = inr (refl, not_preferred_worse g w urgency top first_top narrow e v own order track f u other worse);
+        taken = inr (
+          refl,
+          not_preferred_worse g well_formed urgency top first_top narrow e v own order track f u other
+              worse,
+        );
         measured = own;
         topological = tt;
         narrow = tt;
-        late = λ l. (
-          (e, v, own, l),
+        late = λ exceeds. (
+          (e, v, own, exceeds),
           inr (inr (
             order,
             track,
@@ -97,7 +101,7 @@ module _ (g : Graph) (w : WellFormed g) (urgency : List ℕ) (top : IsTopologica
               other,
               elim (cases_lt f e) [
                 | inl less ↦ absurd (worse (inl less))
-                | inr more ↦ omega (arith, l, more)
+                | inr more ↦ omega (arith, exceeds, more)
               ],
             ),
           )),
@@ -110,13 +114,14 @@ module _ (g : Graph) (w : WellFormed g) (urgency : List ℕ) (top : IsTopologica
           IsTaken g urgency (record { figures = record { excess = f; worst = u }; order = Some order })
       tracks_better own_narrow ungiven better = record {
         taken =
-            inl (preferred g w urgency top first_top narrow e v own order track f u other own_narrow ungiven better);
+            inl (preferred g well_formed urgency top first_top narrow e v own order track f u other own_narrow ungiven
+            better);
         measured = other;
         topological = order_top;
         narrow = own_narrow;
-        late = λ l. (
-          (e, v, own, elim better [ inl less ↦ omega (arith, less) | inr same ↦ omega (arith, same.0, l) ]),
-          inr (inr (order, track, inr (f, u, other, l))),
+        late = λ exceeds. (
+          (e, v, own, elim better [ inl less ↦ omega (arith, less) | inr same ↦ omega (arith, same.0, exceeds) ]),
+          inr (inr (order, track, inr (f, u, other, exceeds))),
         );
       }
 
@@ -133,14 +138,16 @@ module _ (g : Graph) (w : WellFormed g) (urgency : List ℕ) (top : IsTopologica
   module _ (grown : Grown) (is : IsGrownFor g urgency (first_order g urgency) grown) where
     -- if something is late under the first order, the trees that are grown for it have an excess
     pub grown_late : IsLateUnder g urgency (first_order g urgency) → 0 < grown.excess.time
-    grown_late h = let same = one_measure g w urgency (first_order g urgency) first_top grown.excess.time
-        grown.worst.time h.0 h.1 (found_measured g urgency (first_order g urgency) grown is) h.2 in
-        omega (arith, same.0, h.3)
+    grown_late is_late = let same =
+        one_measure g well_formed urgency (first_order g urgency) first_top grown.excess.time
+        grown.worst.time is_late.0 is_late.1 (found_measured g urgency (first_order g urgency) grown is) is_late.2 in
+        omega (arith, same.0, is_late.3)
 
     -- if the first order has no excess, the trees that are grown for it have none
     pub grown_in_time : (e v : ℕ) → IsMeasured g urgency (first_order g urgency) e v → e ≡ 0 → grown.excess.time ≡ 0
-    grown_in_time e v m z = (one_measure g w urgency (first_order g urgency) first_top grown.excess.time
-        grown.worst.time e v (found_measured g urgency (first_order g urgency) grown is) m).0 ∙ z
+    grown_in_time e v measured is_zero =
+        (one_measure g well_formed urgency (first_order g urgency) first_top grown.excess.time
+        grown.worst.time e v (found_measured g urgency (first_order g urgency) grown is) measured).0 ∙ is_zero
 
     -- if the graph has many tracks, the first order is taken
     pub grown_many : (g.order ≡ None → IsNarrow g (first_order g urgency)) → HasManyTracks g →
@@ -151,21 +158,22 @@ module _ (g : Graph) (w : WellFormed g) (urgency : List ℕ) (top : IsTopologica
         record {
           taken = inr (
             refl,
-            not_preferred_many g w urgency top first_top narrow grown.excess.time grown.worst.time found many,
+            not_preferred_many g well_formed urgency top first_top narrow grown.excess.time grown.worst.time found many,
           );
           measured = found;
           topological = tt;
           narrow = tt;
-          late = λ l. ((grown.excess.time, grown.worst.time, found, l), inr (inl many));
+          late = λ exceeds. ((grown.excess.time, grown.worst.time, found, exceeds), inr (inl many));
         }
 
   -- if an order has no excess, the trees that are grown for it have none
   pub tracked_in_time : (order : List ℕ) → IsTopological g order → (t : Grown) → IsGrownFor g urgency order t →
       (e v : ℕ) → IsMeasured g urgency order e v → e ≡ 0 →
       t.excess.time ≡ 0
-  tracked_in_time order order_top t is e v m z =
-      (one_measure g w urgency order order_top t.excess.time t.worst.time e v (found_measured g urgency order t is) m).0
-      ∙ z
+  tracked_in_time order order_top t is e v measured is_zero =
+      (one_measure g well_formed urgency order order_top t.excess.time t.worst.time e v
+      (found_measured g urgency order t is) measured).0
+      ∙ is_zero
 
 -- A graph under whose compile's order nothing is late is accepted.
 -- With the excess 0 the measures say that nothing is late.
@@ -173,13 +181,13 @@ pub accepted : (g : Graph) (urgency : List ℕ) (t : TakenOrder) → (g.order �
     IsTaken g urgency t →
     t.figures.excess ≡ 0 →
     IsAccepted g urgency t.figures.worst
-accepted g urgency t narrow a e =
+accepted g urgency t narrow is_taken no_excess =
     let order = order_taken (first_order g urgency) t.order in
     let is : IsMeasured g urgency order 0 t.figures.worst =
-    subst (λ n. IsMeasured g urgency order n t.figures.worst) e a.measured in
+    subst (λ n. IsMeasured g urgency order n t.figures.worst) no_excess is_taken.measured in
     record {
       order = order;
-      compiled = record { narrow = narrow; taken = a.taken; in_time = (t.figures.worst, is) };
+      compiled = record { narrow = narrow; taken = is_taken.taken; in_time = (t.figures.worst, is) };
       measured = is;
     }
 

@@ -39,44 +39,47 @@ use Rattle.cpg_expand.proofs.GuardTrees.{times_tree}
 -- what holds of the graph, the order and the trees that the code reads holds of those they are
 pub said_of : (P : Graph → List ℕ → List (TreeState (Option ℕ)) → Type 0) (g h : Graph) (us vs : List ℕ)
     (ts rs : List (TreeState (Option ℕ))) → h ≡ g → vs ≡ us → rs ≡ ts → P h vs rs → P g us ts
-said_of P g h us vs ts rs e f i holds =
-    subst (λ x. P x us ts) e (subst (λ x. P h x ts) f (subst (λ x. P h vs x) i holds))
+said_of P g h us vs ts rs same_graph same_us same_ts holds =
+    subst (λ x. P x us ts) same_graph (subst (λ x. P h x ts) same_us (subst (λ x. P h vs x) same_ts holds))
 
 -- given: trees that are grown along a whole order
--- `a`, `order`, `topological`: an admitted graph and an order of it
+-- `is_admitted`, `order`, `topological`: an admitted graph and an order of it
 -- `frozen`, `f`, `grown`: the frozen times and the trees of all processes
-module _ (g : Graph) (urgency : List ℕ) (guards : Guards) (a : IsAdmitted g urgency guards) (order : List ℕ)
+module _ (g : Graph) (urgency : List ℕ) (guards : Guards) (is_admitted : IsAdmitted g urgency guards) (order : List ℕ)
     (topological : IsTopological g order) (frozen : List (Option ℕ)) (f : ForestState)
     (grown : IsGrown g order (process_count g) frozen f) where
   -- each process has a place in the order
   placed : (q : ℕ) → q < process_count g → place order q < process_count g
-  placed q l = place_in_order (process_count g) order topological.all q (omega (arith, l))
+  placed q below = place_in_order (process_count g) order topological.all q (omega (arith, below))
 
   -- each item is of a process before the last place's end
   earlier : (x : ℕ) → x < item_count g → IsEarlier g order (process_count g) x
-  earlier x l = placed (producer g x) (producer_within g a.well_formed x l)
+  earlier x below = placed (producer g x) (producer_within g is_admitted.well_formed x below)
 
   -- the trees of the ends say when each process ends in every run
   pub grown_gives_ends : GiveEnds g order frozen f.ends
-  grown_gives_ends s t law run q l x on =
-      ((grown.lines (own_rows f) (own_rows_hold g order (process_count g) f grown.trees) s law t run).ends q l
-      (placed q l)).value x on
+  grown_gives_ends s t law run q below x on =
+      ((grown.lines (own_rows f) (own_rows_hold g order (process_count g) f grown.trees) s law t run).ends q below
+      (placed q below)).value x on
 
   -- the frozen times that are found are those of the order
   pub grown_frozen : AreFrozenTimes g order frozen
   grown_frozen = record {
     count = grown.settled.count;
-    each = λ x l is. grown.settled.each x l is (earlier x l);
-    others = λ x off. grown.settled.others x (λ l is early. both_ways _ off is);
+    each = λ x below is. grown.settled.each x below is (earlier x below);
+    others = λ x off. grown.settled.others x (λ below is early. both_ways _ off is);
   }
 
   -- the frozen times are those of an order of an admitted graph
   timed : IsTimed g urgency order frozen
-  timed = record { admitted = admitted_under g urgency order guards a topological; frozen_times = grown_frozen }
+  timed = record {
+    admitted = admitted_under g urgency order guards is_admitted topological;
+    frozen_times = grown_frozen;
+  }
 
   -- the tree of each item is for the graph's fault count
   faults_of : (x : ℕ) → x < item_count g → (times_of g f x).faults ≡ g.faults
-  faults_of x l = (times_tree g f grown.trees x l).faults
+  faults_of x below = (times_tree g f grown.trees x below).faults
 
   -- given: rows that are made from the trees of the items' times
   module _ (rows : List Row) (are : AreRowsOf g urgency f.times rows) where
@@ -86,50 +89,53 @@ module _ (g : Graph) (urgency : List ℕ) (guards : Guards) (a : IsAdmitted g ur
 
     -- each item has a row that is made of its tree
     row_is : (x : ℕ) → x < item_count g → IsRowOf g urgency (times_of g f x) x (get_or rows x no_row)
-    row_is x l = are.each x no_row l
+    row_is x below = are.each x no_row below
 
     -- the columns of an item are those of its row
     columns_at : (x : ℕ) → x < item_count g → row_at columns x ≡ (get_or rows x no_row).columns
-    columns_at x l = get_or-map (λ (row : Row). row.columns) rows x no_row [] (omega (arith, l, are.count))
+    columns_at x below = get_or-map (λ (row : Row). row.columns) rows x no_row [] (omega (arith, below, are.count))
 
     -- the row of a start has the paths of its tree, merged
     start_row : (p : ℕ) → p < process_count g → AreMergedOf g urgency (times_of g f p) (row_at columns p)
-    start_row p l =
-        let inside : p < item_count g = omega (arith, l) in
-        subst (AreMergedOf g urgency (times_of g f p)) (sym (columns_at p inside)) ((row_is p inside).start l)
+    start_row p below =
+        let inside : p < item_count g = omega (arith, below) in
+        subst (AreMergedOf g urgency (times_of g f p)) (sym (columns_at p inside)) ((row_is p inside).start below)
 
     -- the row of what is sent has the paths of its tree, unmerged
     sent_row : (x : ℕ) → process_count g ≤ x → x < item_count g →
         AreEntriesOf g urgency (times_of g f x) (row_at columns x)
-    sent_row x big l = subst (AreEntriesOf g urgency (times_of g f x)) (sym (columns_at x l)) ((row_is x l).send big)
+    sent_row x big below = subst (AreEntriesOf g urgency (times_of g f x)) (sym (columns_at x below))
+        ((row_is x below).send big)
 
     -- the columns of what is sent are the paths of its tree that have a time
     hold : RowsHold g order (process_count g) f columns
     hold = record {
-      sends = λ x l big sooner path time j is.
-          let r = sent_row x big l in (
+      sends = λ x below big sooner path time listed is.
+          let its_row = sent_row x big below in (
             record { time = time; cube = path.0 },
-            column_there g a.limits.few_processes urgency a.topological.all (times_of g f x)
-                (row_at columns x) r.are path time j is,
+            column_there g is_admitted.limits.few_processes urgency is_admitted.topological.all (times_of g f x)
+                (row_at columns x) its_row.are path time listed is,
             refl,
           );
     }
 
     -- in each run the tree of an item gives its time, with the literals that are carried
     tree : (x : ℕ) → x < item_count g → IsTreeOf g order frozen columns x (times_of g f x)
-    tree x l s run law ran = (grown.lines columns hold s law run ran).times x l (earlier x l)
+    tree x below s run law ran = (grown.lines columns hold s law run ran).times x below (earlier x below)
 
     -- each row carries what it has to: that of a start as it is merged, that of a send as it is listed
     carrying_row : (x : ℕ) → x < item_count g → IsCarryingRow g urgency order frozen columns x
-    carrying_row x l = elim (cases_lt x (process_count g)) [
+    carrying_row x below = elim (cases_lt x (process_count g)) [
       | inl start ↦
-          let r = start_row x start in
-          merged_row_carries g a.limits.few_processes urgency a.topological.all
-          (times_of g f x) r.columns r.are order frozen timed columns x (tree x l) (faults_of x l) r.merge
+          let its_row = start_row x start in
+          merged_row_carries g is_admitted.limits.few_processes urgency is_admitted.topological.all
+          (times_of g f x) its_row.columns its_row.are order frozen timed columns x (tree x below)
+          (faults_of x below) its_row.merge
       | inr send ↦
-          let r = sent_row x send l in
-          tree_row_carries g a.limits.few_processes urgency a.topological.all (times_of g f x)
-          (row_at columns x) r.are order frozen timed columns x (tree x l) (faults_of x l) r.by_lows refl
+          let its_row = sent_row x send below in
+          tree_row_carries g is_admitted.limits.few_processes urgency is_admitted.topological.all (times_of g f x)
+          (row_at columns x) its_row.are order frozen timed columns x (tree x below) (faults_of x below) its_row.by_lows
+          refl
     ]
 
     -- so all rows do
@@ -137,14 +143,14 @@ module _ (g : Graph) (urgency : List ℕ) (guards : Guards) (a : IsAdmitted g ur
     carrying = record {
       count = length-map rows (λ (row : Row). row.columns) ∙ are.count;
       each = carrying_row;
-      merged = λ p l. (start_row p l).merge.merged;
+      merged = λ p below. (start_row p below).merge.merged;
     }
 
     -- the rows are those of the items, in the order of their numbers
     items : items_of rows ≡ numbers_below (item_count g)
     items = same_number_lists (items_of rows) (numbers_below (item_count g))
         (count ∙ sym (length-range_with_len 0 (item_count g)))
-        (λ x l. let inside : x < item_count g = omega (arith, l, count) in
+        (λ x below. let inside : x < item_count g = omega (arith, below, count) in
         get_or-map (λ (row : Row). row.item) rows x no_row 0 (omega (arith, inside, are.count)) ∙ (row_is x inside).item
         ∙ sym (get_or-range_with_len 0 (item_count g) x 0 inside ∙ omega arith))
       where
@@ -156,7 +162,7 @@ module _ (g : Graph) (urgency : List ℕ) (guards : Guards) (a : IsAdmitted g ur
     pub grown_rows_found : AreRowsFound g urgency order frozen rows
     grown_rows_found = record {
       frozen_times = grown_frozen;
-      early = early_from_low g order frozen a.limits topological grown.settled.count grown.settled.low;
+      early = early_from_low g order frozen is_admitted.limits topological grown.settled.count grown.settled.low;
       items = items;
       found = carrying;
     }

@@ -36,8 +36,8 @@ module _ (g : Graph) (order : List ℕ) (frozen : List (Option ℕ)) (tables : L
 
   -- an end is seen in the run exactly as the tables show it
   pub end_is_seen : (time p : ℕ) → p < process_count g → seen_end g s t time p ≡ end_seen g tables s time p
-  end_is_seen time p l = ap (λ o. seen time o (fault_of s p ∷ value_in_key s.values (condition_of g p)))
-      (end_is g order frozen s t run p l
+  end_is_seen time p below = ap (λ o. seen time o (fault_of s p ∷ value_in_key s.values (condition_of g p)))
+      (end_is g order frozen s t run p below
       ∙ ap (option_map (λ start. start + duration g p (fault_of s p))) (sym (time_is p)))
 
   -- a frame is seen in the run exactly as the tables show it
@@ -48,24 +48,26 @@ module _ (g : Graph) (order : List ℕ) (frozen : List (Option ℕ)) (tables : L
 
 -- given: a well-formed graph with single joins, and its orders
 -- `urgent`: `urgency` is the urgency order. `top`, `first_top`: it and the first order are topological.
-module _ (g : Graph) (w : WellFormed g) (joins : HasSingleJoins g) (urgency : List ℕ)
+module _ (g : Graph) (well_formed : WellFormed g) (joins : HasSingleJoins g) (urgency : List ℕ)
     (urgent : IsUrgencyOrder g urgency) (top : IsTopological g urgency)
     (first_top : IsTopological g (first_order g urgency)) where
   -- the tables that are built under the compile's order have local knowledge
   pub know_locally : (order : List ℕ) → IsCompileOrder g urgency order → (b : Built) → IsBuiltFor g urgency order b →
       KnowLocally g b.tables.nodes
-  know_locally order taken b is node time s u ls lu alike =
+  know_locally order taken b is node time s u law other_law alike =
       let tables = b.tables.nodes in
       let times = is.exact.times in
-      let topological = compile_topological g w urgency top first_top order taken in
+      let topological = compile_topological g well_formed urgency top first_top order taken in
       let one = a_run g order b.frozen s topological in
       let other = a_run g order b.frozen u topological in
       let same : AreAlike g node time s one.0 u other.0 = record {
-        ends = λ p l h. end_is_seen g order b.frozen tables times s ls one.0 one.1 time p l ∙ alike.ends p l h
-            ∙ sym (end_is_seen g order b.frozen tables times u lu other.0 other.1 time p l);
-        frames = λ x l h. frame_is_seen g order b.frozen tables times s ls one.0 one.1 time x ∙ alike.frames x l h
-            ∙ sym (frame_is_seen g order b.frozen tables times u lu other.0 other.1 time x);
+        ends = λ p below on_node. end_is_seen g order b.frozen tables times s law one.0 one.1 time p below
+            ∙ alike.ends p below on_node
+            ∙ sym (end_is_seen g order b.frozen tables times u other_law other.0 other.1 time p below);
+        frames = λ x below is_heard. frame_is_seen g order b.frozen tables times s law one.0 one.1 time x
+            ∙ alike.frames x below is_heard
+            ∙ sym (frame_is_seen g order b.frozen tables times u other_law other.0 other.1 time x);
       } in
       local_tables g urgency order b.frozen tables node time s u one.0 other.0
-      (record { formed = w; joins = joins; urgent = urgent; topological = topological }) times ls lu
+      (record { formed = well_formed; joins = joins; urgent = urgent; topological = topological }) times law other_law
       one.1 other.1 same

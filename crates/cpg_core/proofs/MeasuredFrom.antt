@@ -11,27 +11,41 @@ use Rattle.cpg_core.specs.Compiled.{IsMeasured}
 use Rattle.cpg_core.proofs.BuiltExists.{measured_exists}
 
 -- given: a well-formed graph, and the frozen times of an order
-module _ (g : Graph) (w : WellFormed g) (urgency order : List ℕ) (top : IsTopological g order)
+module _ (g : Graph) (well_formed : WellFormed g) (urgency order : List ℕ) (top : IsTopological g order)
     (frozen : List (Option ℕ)) (times : AreFrozenTimes g order frozen) where
   -- the greatest excess and the greatest finish of all runs are the measures of the order
   pub measured_from : (excess worst : ℕ) → HasGreatest g order frozen excess worst →
       IsMeasured g urgency order excess worst
-  measured_from excess worst h =
+  measured_from excess worst greatest =
       -- the order has measures, under the same frozen times
-      let m = measured_exists g w order top urgency in
-      let a : IsMeasured g urgency order m.0 m.1 = m.2 in
-      let same : a.frozen ≡ frozen = frozen_unique g order top a.frozen frozen a.frozen_times times in
-      let e : IsExcess g urgency order frozen m.0 a.excess_in a.excess_by =
-      subst (λ z. IsExcess g urgency order z m.0 a.excess_in a.excess_by) same a.is_excess in
-      let v : IsWorst g urgency order frozen m.1 a.worst_in a.worst_by =
-      subst (λ z. IsWorst g urgency order z m.1 a.worst_in a.worst_by) same a.is_worst in
-      let eh = e.least.holds in
-      let vh = v.least.holds in
-      let er = h.is_excess.reached in
-      let vr = h.is_worst.reached in
+      let measures = measured_exists g well_formed order top urgency in
+      let is_measured : IsMeasured g urgency order measures.0 measures.1 = measures.2 in
+      let same : is_measured.frozen ≡ frozen =
+      frozen_unique g order top is_measured.frozen frozen is_measured.frozen_times times in
+      let is_excess : IsExcess g urgency order frozen measures.0 is_measured.excess_in is_measured.excess_by =
+      subst (λ z. IsExcess g urgency order z measures.0 is_measured.excess_in is_measured.excess_by) same
+      is_measured.is_excess in
+      let is_worst : IsWorst g urgency order frozen measures.1 is_measured.worst_in is_measured.worst_by =
+      subst (λ z. IsWorst g urgency order z measures.1 is_measured.worst_in is_measured.worst_by) same
+      is_measured.is_worst in
+      let excess_run = is_excess.least.holds in
+      let worst_run = is_worst.least.holds in
+      let excess_reached = greatest.is_excess.reached in
+      let worst_reached = greatest.is_worst.reached in
       -- they are both the greatest, so they are the same
-      let ee : m.0 ≡ excess = omega
-      (arith, eh.2, h.is_excess.above a.excess_in eh.0 e.least.lawful eh.1, er.4, e.greatest er.0 er.1 er.2 er.3) in
-      let ve : m.1 ≡ worst = omega
-      (arith, vh.2, h.is_worst.above a.worst_in vh.0 v.least.lawful vh.1, vr.4, v.greatest vr.0 vr.1 vr.2 vr.3) in
-      subst (λ n. IsMeasured g urgency order n worst) ee (subst (λ n. IsMeasured g urgency order m.0 n) ve a)
+      let same_excess : measures.0 ≡ excess = omega (
+        arith,
+        excess_run.2,
+        greatest.is_excess.above is_measured.excess_in excess_run.0 is_excess.least.lawful excess_run.1,
+        excess_reached.4,
+        is_excess.greatest excess_reached.0 excess_reached.1 excess_reached.2 excess_reached.3,
+      ) in
+      let same_worst : measures.1 ≡ worst = omega (
+        arith,
+        worst_run.2,
+        greatest.is_worst.above is_measured.worst_in worst_run.0 is_worst.least.lawful worst_run.1,
+        worst_reached.4,
+        is_worst.greatest worst_reached.0 worst_reached.1 worst_reached.2 worst_reached.3,
+      ) in
+      subst (λ n. IsMeasured g urgency order n worst) same_excess
+      (subst (λ n. IsMeasured g urgency order measures.0 n) same_worst is_measured)

@@ -20,18 +20,19 @@ use Rattle.cpg_core.specs.declared.built_rows.BuiltRows.{BuiltRows}
 use Rattle.cpg_core.proofs.WideRowsMade.{tables_fit}
 
 -- given: rows that are built under a topological order
--- `a`, `order`, `topological`: an admitted graph and an order of it; `r`, `are`: the rows that are built under that
--- order
-module _ (g : Graph) (urgency : List ℕ) (guards : Guards) (a : IsAdmitted g urgency guards) (order : List ℕ)
+-- `is_admitted`, `order`, `topological`: an admitted graph and an order of it; `r`, `are`: the rows that are built
+-- under that order
+module _ (g : Graph) (urgency : List ℕ) (guards : Guards) (is_admitted : IsAdmitted g urgency guards) (order : List ℕ)
     (topological : IsTopological g order) (r : BuiltRows)
     (are : AreBuiltRows g urgency order r) where
   -- the graph is admitted under this order, too
   admitted : Admitted g urgency order
-  admitted = admitted_under g urgency order guards a topological
+  admitted = admitted_under g urgency order guards is_admitted topological
 
   -- rows that are built can be written
   pub built_writable : AreWritable g r.rows.items
-  built_writable = found_rows_are_writable g urgency order r.frozen r.rows.items a.limits admitted are.found are.fit
+  built_writable = found_rows_are_writable g urgency order r.frozen r.rows.items is_admitted.limits admitted are.found
+      are.fit
 
   -- there is a row for each item
   count : length r.rows.items ≡ item_count g
@@ -42,7 +43,7 @@ module _ (g : Graph) (urgency : List ℕ) (guards : Guards) (a : IsAdmitted g ur
   module _ (t : Tables) (written : AreTablesWith g r.rows.items t) where
     -- the tables of rows that are built are what a builder answers
     pub built_tables : IsBuiltFor g urgency order (built_of r t)
-    built_tables = found_tables_are_built g urgency order r.rows.items (built_of r t) a.limits admitted
+    built_tables = found_tables_are_built g urgency order r.rows.items (built_of r t) is_admitted.limits admitted
         (record { found = are.found; written = written; worst = are.worst; excess = are.excess })
 
     -- the tables are within the limits of columns

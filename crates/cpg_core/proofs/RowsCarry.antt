@@ -86,35 +86,43 @@ module _ (g : Graph) (few : process_count g ≤ 128) (urgency : List ℕ)
 
         -- no time in the run: no column matches; a time: the column of the scenario's path matches, and no other
         by_time : (o : Option ℕ) → get_or run.times x None ≡ o → times_in columns s ≡ option_to_list o
-        by_time None e = ap (map (λ (c : Column). c.time))
-            (filter_none (λ (c : Column). matches c.cube s) columns (λ c j. false_from_ne_true (matches c.cube s) (λ m.
-            let p = path_of c j in
-            some_none c.time (sym p.2 ∙ agrees.value p.0
-            (record { stands = p.1; matched = subst (λ (ls : List Literal). matches ls s ≡ true) (sym p.3) m })
-            ∙ e))))
+        by_time None is_o = ap (map (λ (c : Column). c.time))
+            (filter_none (λ (c : Column). matches c.cube s) columns
+            (λ c listed. false_from_ne_true (matches c.cube s) (λ is_matched.
+            let its_path = path_of c listed in
+            some_none c.time (sym its_path.2 ∙ agrees.value its_path.0
+            (record {
+              stands = its_path.1;
+              matched = subst (λ (ls : List Literal). matches ls s ≡ true) (sym its_path.3) is_matched;
+            })
+            ∙ is_o))))
           where
             -- some time isn't none
             some_none : (n : ℕ) → Some n ≡ None → ⊥
-            some_none n e = cc
-        by_time (Some n) e =
-            let p = the_path g.faults t.paths are.each s (scenario_few g s law) in
-            let value : p.0.1 ≡ Some n = agrees.value p.0 p.1 ∙ e in
+            some_none n equal = cc
+        by_time (Some n) has_time =
+            let its_path = the_path g.faults t.paths are.each s (scenario_few g s law) in
+            let value : its_path.0.1 ≡ Some n = agrees.value its_path.0 its_path.1 ∙ has_time in
             the_one (times_in columns s) n (single s law)
             (Contains-map (λ (c : Column). c.time) (filter (λ (c : Column). matches c.cube s) columns)
-            (record { time = n; cube = p.0.0 })
-            (Contains-filter (λ (c : Column). matches c.cube s) columns (record { time = n; cube = p.0.0 }) p.1.matched
-            (column_there p.0 n p.1.stands value)))
+            (record { time = n; cube = its_path.0.0 })
+            (Contains-filter (λ (c : Column). matches c.cube s) columns (record { time = n; cube = its_path.0.0 })
+            its_path.1.matched
+            (column_there its_path.0 n its_path.1.stands value)))
 
     -- the cube of a column that matches says no more than what is carried beside the item's time
     pub columns_carry : (s : Scenario) (c : Column) → IsScenario g s → Contains columns c → matches c.cube s ≡ true →
         ContainsKept g.faults c.cube (carried g order rows s x)
-    columns_carry s c law j m =
-        let p = path_of c j in
-        let r = a_run g order frozen s timed.admitted.topological in
-        let kept = (tree s r.0 law r.1).says p.0
-        (record { stands = p.1; matched = subst (λ (ls : List Literal). matches ls s ≡ true) (sym p.3) m }) in
-        subst (λ (ls : List Literal). ContainsKept g.faults ls (carried g order rows s x)) p.3
-        (subst (λ k. ContainsKept k p.0.0 (carried g order rows s x)) same_faults kept)
+    columns_carry s c law listed is_matched =
+        let its_path = path_of c listed in
+        let its_run = a_run g order frozen s timed.admitted.topological in
+        let kept = (tree s its_run.0 law its_run.1).says its_path.0
+        (record {
+          stands = its_path.1;
+          matched = subst (λ (ls : List Literal). matches ls s ≡ true) (sym its_path.3) is_matched;
+        }) in
+        subst (λ (ls : List Literal). ContainsKept g.faults ls (carried g order rows s x)) its_path.3
+        (subst (λ k. ContainsKept k its_path.0.0 (carried g order rows s x)) same_faults kept)
 
     -- if the columns stand by their least scenarios, the row of a send carries what it has to
     pub tree_row_carries : AreByLows (λ (c : Column). c.cube) g urgency columns → row_at rows x ≡ columns →
@@ -123,15 +131,16 @@ module _ (g : Graph) (few : process_count g ≤ 128) (urgency : List ℕ)
     tree_row_carries by_lows is = record {
       times = λ s run law ran. subst (λ (cs : List Column). times_in cs s ≡ option_to_list (get_or run.times x None))
           (sym is) (times s run law ran);
-      carries = λ s c law j m. columns_carry s c law (subst (λ (cs : List Column). Contains cs c) is j) m;
+      carries = λ s c law listed is_matched. columns_carry s c law
+          (subst (λ (cs : List Column). Contains cs c) is listed) is_matched;
       cubes = subst (All (λ (c : Column). IsCube g c.cube)) (sym is)
-          (every (λ (c : Column). IsCube g c.cube) columns (λ c j. (tidy_at c j).cube));
+          (every (λ (c : Column). IsCube g c.cube) columns (λ c listed. (tidy_at c listed).cube));
       within = subst (All (λ (c : Column). All (λ (l : Literal). l.high ≤ top g.faults l.variable) c.cube)) (sym is)
           (every (λ (c : Column). All (λ (l : Literal). l.high ≤ top g.faults l.variable) c.cube) columns
-          (λ c j. (tidy_at c j).within));
+          (λ c listed. (tidy_at c listed).within));
       not_whole = subst (All (λ (c : Column). All (λ (l : Literal). is_whole g.faults l ≡ false) c.cube)) (sym is)
           (every (λ (c : Column). All (λ (l : Literal). is_whole g.faults l ≡ false) c.cube) columns
-          (λ c j. (tidy_at c j).not_whole));
+          (λ c listed. (tidy_at c listed).not_whole));
       met = subst (AreMet g urgency) (sym is) (are_met g few urgency all columns good single);
       ordered = subst (AreOrdered g urgency) (sym is) (are_ordered g few urgency all columns good single by_lows);
     }
@@ -142,14 +151,15 @@ module _ (g : Graph) (few : process_count g ≤ 128) (urgency : List ℕ)
     -- that
     merged_row_carries merge = record {
       times = λ s run law ran. merge.times s law ∙ times s run law ran;
-      carries = λ s c law j m.
+      carries = λ s c law listed is_matched.
           let there = Contains-map (λ (c : Column). c.time) (filter (λ (c : Column). matches c.cube s) (row_at rows x))
-          c (Contains-filter (λ (c : Column). matches c.cube s) (row_at rows x) c m j) in
-          let r = Contains-map_parts (λ (c : Column). c.time) (filter (λ (c : Column). matches c.cube s) columns) c.time
+          c (Contains-filter (λ (c : Column). matches c.cube s) (row_at rows x) c is_matched listed) in
+          let original = Contains-map_parts (λ (c : Column). c.time) (filter (λ (c : Column). matches c.cube s) columns)
+          c.time
           (subst (λ ns. Contains ns c.time) (merge.times s law) there) in
-          let q = Contains-filter_parts (λ (c : Column). matches c.cube s) columns r.0 r.1 in
-          let kept = columns_carry s r.0 law q.0 q.1 in
-          let wide = merge.wider s r.0 c law q.0 j q.1 m in
+          let original_parts = Contains-filter_parts (λ (c : Column). matches c.cube s) columns original.0 original.1 in
+          let kept = columns_carry s original.0 law original_parts.0 original_parts.1 in
+          let wide = merge.wider s original.0 c law original_parts.0 listed original_parts.1 is_matched in
           record {
             low = λ v. omega (arith, (wide v).0, kept.low v);
             high = λ v. omega (arith, (wide v).1, kept.high v);

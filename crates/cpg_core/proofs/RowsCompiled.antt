@@ -20,7 +20,7 @@ use Rattle.cpg_core.proofs.Compilations.{compilation}
 use Rattle.cpg_core.proofs.CompiledLaws.{compile_topological}
 
 -- given: an admitted graph in which no item is too wide, if it gives no order
-module _ (g : Graph) (urgency : List ℕ) (guards : Guards) (a : IsAdmitted g urgency guards)
+module _ (g : Graph) (urgency : List ℕ) (guards : Guards) (admitted : IsAdmitted g urgency guards)
     (first_top : IsTopological g (first_order g urgency))
     (narrow : g.order ≡ None → IsNarrow g (first_order g urgency)) where
   -- rows that are built under the compile's order, with nothing late, are those of its compilations
@@ -30,21 +30,23 @@ module _ (g : Graph) (urgency : List ℕ) (guards : Guards) (a : IsAdmitted g ur
   compiled_rows t r are same zero taken =
       -- the order is topological, so its rows can be written, and it is the compile's
       let top : IsTopological g t.order =
-      compile_topological g a.well_formed urgency a.topological first_top t.order taken in
-      let writable : AreWritable g r.rows.items = built_writable g urgency guards a t.order top r are in
+      compile_topological g admitted.well_formed urgency admitted.topological first_top t.order taken in
+      let writable : AreWritable g r.rows.items = built_writable g urgency guards admitted t.order top r are in
       let own : IsCompileOrder g urgency r.order = subst (IsCompileOrder g urgency) (sym are.same) taken in
       record {
         writable = writable;
-        compilation = λ tables w.
+        compilation = λ tables has_rows.
             -- tables of these rows are built for the order
             let built : IsBuiltFor g urgency r.order (built_of r tables) =
             subst (λ o. IsBuiltFor g urgency o (built_of r tables)) (sym are.same)
-            (built_tables g urgency guards a t.order top r are tables w) in
-            compilation g a.well_formed urgency a.topological first_top narrow a.joins a.urgency r.order own
+            (built_tables g urgency guards admitted t.order top r are tables has_rows) in
+            compilation g admitted.well_formed urgency admitted.topological first_top narrow admitted.joins
+            admitted.urgency r.order own
             (built_of r tables) built
-            (built_fit g urgency guards a t.order top r are tables w) (ap (λ (p : Peak). p.time) same ∙ zero);
-        tables = written g a.limits a.well_formed r.rows.items writable;
-        written = is_written g a.limits a.well_formed r.rows.items writable;
+            (built_fit g urgency guards admitted t.order top r are tables has_rows)
+            (ap (λ (p : Peak). p.time) same ∙ zero);
+        tables = written g admitted.limits admitted.well_formed r.rows.items writable;
+        written = is_written g admitted.limits admitted.well_formed r.rows.items writable;
       }
 
 -- what is assembled of such rows is a compilation

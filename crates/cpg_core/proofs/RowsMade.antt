@@ -17,13 +17,13 @@ pub rows_more : (g : Graph) (urgency : List ℕ) (times : List (TreeState (Optio
     IsRowOf g urgency (get_or times n (no_tree g.faults)) n row →
     more ≡ rows ++ row ∷ [] → AreFirstRows g urgency times (n + 1) more
 -- an item before n keeps its row, and item n has the new one
-rows_more g urgency times n rows more row a new is = record {
-  count = ap length is ∙ length-append rows (row ∷ []) ∙ ap (λ m. m + 1) a.count;
-  each = λ x d l. elim (cases_lt x n) [
-    | inl h ↦ subst (IsRowOf g urgency (get_or times x (no_tree g.faults)) x) (sym (ap (λ rs. get_or rs x d) is
-        ∙ get_or_append_left rows (row ∷ []) d x (omega (arith, h, a.count)))) (a.each x d h)
-    | inr h ↦
-        let at : x ≡ length rows = omega (arith, a.count) in
+rows_more g urgency times n rows more row made new is = record {
+  count = ap length is ∙ length-append rows (row ∷ []) ∙ ap (λ m. m + 1) made.count;
+  each = λ x d below. elim (cases_lt x n) [
+    | inl before ↦ subst (IsRowOf g urgency (get_or times x (no_tree g.faults)) x) (sym (ap (λ rs. get_or rs x d) is
+        ∙ get_or_append_left rows (row ∷ []) d x (omega (arith, before, made.count)))) (made.each x d before)
+    | inr not_before ↦
+        let at : x ≡ length rows = omega (arith, made.count) in
         let same : n ≡ x = omega arith in
         subst (IsRowOf g urgency (get_or times x (no_tree g.faults)) x)
         (sym (ap₂ (λ rs j. get_or rs j d) is at ∙ get_or-append_seam rows row [] d))
@@ -38,10 +38,10 @@ cons_nil x rest e = cc
 -- if an element and a rest are left of a list, the element is the next one and the rest is what is left after it
 pub next_left : {T : Type 0} (xs rest : List T) (x d : T) (n : ℕ) → x ∷ rest ≡ drop n xs →
     (get_or xs n d ≡ x) × (rest ≡ drop (n + 1) xs)
-next_left [] rest x d zero e = absurd (cons_nil x rest e)
-next_left [] rest x d (suc n) e = absurd (cons_nil x rest e)
-next_left (y ∷ ys) rest x d zero e = (ap (λ zs. get_or zs 0 d) (sym e), ap (λ zs. drop 1 zs) e)
-next_left (y ∷ ys) rest x d (suc n) e =
-    let next = next_left ys rest x d n e in
+next_left [] rest x d zero is_rest = absurd (cons_nil x rest is_rest)
+next_left [] rest x d (suc n) is_rest = absurd (cons_nil x rest is_rest)
+next_left (y ∷ ys) rest x d zero is_rest = (ap (λ zs. get_or zs 0 d) (sym is_rest), ap (λ zs. drop 1 zs) is_rest)
+next_left (y ∷ ys) rest x d (suc n) is_rest =
+    let next = next_left ys rest x d n is_rest in
     let same : suc (n + 1) ≡ suc n + 1 = omega arith in
     (next.0, subst (λ k. rest ≡ drop k (y ∷ ys)) same next.1)

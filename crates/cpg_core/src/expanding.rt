@@ -11,9 +11,9 @@ ghost use Rattle.cpg_reach.specs.Wide.{IsLeastWide, IsNarrow};
 ghost use Rattle.cpg_run.specs.Built.{IsBuiltFor, ShowsBuildFault};
 
 use crate::BuiltRows;
+use crate::growing::{GrownForest, grown};
 use crate::rows::rows;
 use cpg_base::{Order, OutOfMemory};
-use cpg_expand::{GrownForest, grown};
 use cpg_reach::too_wide;
 use cpg_rules::Admitted;
 use cpg_run::{BuildFault, Built};

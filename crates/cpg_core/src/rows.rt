@@ -12,7 +12,7 @@ ghost use Rattle.cpg_run.specs.Found.{DoRowsFit};
 use cpg_base::{MOST_COLUMNS, MOST_LOAD, Order, OutOfMemory, Problem};
 use cpg_reach::rows_of_item;
 use cpg_run::BuildFault;
-use cpg_tree::Tree;
+use cpg_tree::{OptionalTime, Tree};
 use cpg_tree_columns::{MadeRow, row};
 use std::alloc::Global;
 
@@ -56,7 +56,7 @@ pub(crate) fn rows(
     alloc: Global,
     problem: &Problem,
     urgency: &Order,
-    times: Vec<Tree<Option<u64>>>,
+    times: Vec<Tree<OptionalTime>>,
     wide: Option<u32>,
 ) -> Result<Vec<MadeRow>, BuildFault>
     requires order { IsPermutation (numbers_below (process_count problem.now)) urgency.now }

@@ -28,12 +28,13 @@ module _ (g : Graph) (order : List ℕ) (guards : Guards) (admitted : IsAdmitted
 
   -- a start is active just where its process is
   pub start_activity : (x : ℕ) → x < process_count g → p ≡ producer g x → IsActivityOf g x chooser
-  start_activity x small e s path law on = (active_has_value s law).value path on
-      ∙ ap (active g s.values) (e ∙ ap (producer_of_item g) (item_at-start g x small)) ∙
+  start_activity x small is_producer s path law on = (active_has_value s law).value path on
+      ∙ ap (active g s.values) (is_producer ∙ ap (producer_of_item g) (item_at-start g x small)) ∙
       sym (ap (item_active g s.values) (item_at-start g x small))
 
   -- an item that is sent is active just where the tree of that, made from the process's, is true
   pub sent_activity : (x : ℕ) → p ≡ producer g x → (t : TreeState Bool) → IsGoesTree g x chooser t → IsActivityOf g x t
-  sent_activity x e t goes s path law on = (goes s (scenario_few g s law) (values_known s (way guard s.values))
-      (subst (λ q. HasValueFrom s (values_known s (way guard s.values)) (active g s.values q) chooser) e
+  sent_activity x is_producer t goes s path law on =
+      (goes s (scenario_few g s law) (values_known s (way guard s.values))
+      (subst (λ q. HasValueFrom s (values_known s (way guard s.values)) (active g s.values q) chooser) is_producer
       (active_has_value s law))).value path on

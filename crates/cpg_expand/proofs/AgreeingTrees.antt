@@ -28,8 +28,10 @@ module _ (xs ys : List Literal) (v : ℕ) where
   kept_low_both : max (kept_low xs v) (kept_low ys v) ≤ kept_low (xs ++ ys) v
   kept_low_both = omega (
     arith,
-    kept_low_below xs v (kept_low (xs ++ ys) v) (λ m j e. low_kept (xs ++ ys) v m (Contains-append_left xs ys m j) e),
-    kept_low_below ys v (kept_low (xs ++ ys) v) (λ m j e. low_kept (xs ++ ys) v m (Contains-append_right xs ys m j) e),
+    kept_low_below xs v (kept_low (xs ++ ys) v)
+        (λ literal listed same. low_kept (xs ++ ys) v literal (Contains-append_left xs ys literal listed) same),
+    kept_low_below ys v (kept_low (xs ++ ys) v)
+        (λ literal listed same. low_kept (xs ++ ys) v literal (Contains-append_right xs ys literal listed) same),
   )
 
   -- the high that both lists leave together is no greater than that of either
@@ -37,9 +39,9 @@ module _ (xs ys : List Literal) (v : ℕ) where
   kept_high_both k = omega (
     arith,
     kept_high_above xs v k (kept_high k (xs ++ ys) v) (omega (arith, high_kept_top (xs ++ ys) v k))
-        (λ m j e. high_kept (xs ++ ys) v k m (Contains-append_left xs ys m j) e),
+        (λ literal listed same. high_kept (xs ++ ys) v k literal (Contains-append_left xs ys literal listed) same),
     kept_high_above ys v k (kept_high k (xs ++ ys) v) (omega (arith, high_kept_top (xs ++ ys) v k))
-        (λ m j e. high_kept (xs ++ ys) v k m (Contains-append_right xs ys m j) e),
+        (λ literal listed same. high_kept (xs ++ ys) v k literal (Contains-append_right xs ys literal listed) same),
   )
 
 -- ---- the operations
@@ -52,10 +54,10 @@ module _ (s : Scenario) where
       ((x : T) → fact x → other x) →
       Agrees s some fact t → Agrees s more other t
   -- more literals keep no less of each range
-  agrees_weaker t some more fact other within follows a = record {
-    value = λ x on. follows x.1 (a.value x on);
-    says = λ x on.
-        let kept = a.says x on in
+  agrees_weaker t some more fact other within follows agreed = record {
+    value = λ path on. follows path.1 (agreed.value path on);
+    says = λ path on.
+        let kept = agreed.says path on in
         record {
           low = λ v. omega (arith, kept.low v, (kept_grows t.faults some more within v).0);
           high = λ v. omega (arith, kept.high v, (kept_grows t.faults some more within v).1);
@@ -66,8 +68,8 @@ module _ (s : Scenario) where
   pub agrees_constant : {T : Type 0} (x : T) (k : ℕ) (t : TreeState T) (fact : T → Type 0) → fact x → IsConstant x k t →
       Agrees s [] fact t
   agrees_constant x k t fact holds is = subst (Agrees s [] fact) (sym is) (record {
-    value = λ y on. subst (λ (z : Path _). fact z.1) (only y on.stands) holds;
-    says = λ y on. subst (λ (z : Path _). ContainsKept k z.0 []) (only y on.stands)
+    value = λ path on. subst (λ (z : Path _). fact z.1) (only path on.stands) holds;
+    says = λ path on. subst (λ (z : Path _). ContainsKept k z.0 []) (only path on.stands)
         (record { low = λ v. omega arith; high = λ v. omega arith });
   })
     where
@@ -82,13 +84,14 @@ module _ (s : Scenario) where
       ((x : T) (z : U) → fact x → answers x z → other z) → Agrees s literals fact a → Agrees s literals other r
   -- the scenario's path in the new tree has the answer to its value in the old one, and no wider ranges
   agrees_map answers a r literals fact other few each is follows of_a =
-      let x = the_path a.faults a.paths each s few in
+      let old_path = the_path a.faults a.paths each s few in
       record {
-        value = λ z on. follows x.0.1 z.1 (of_a.value x.0 x.1) (is.value s x.0 z few x.1 on);
-        says = λ z on.
-            let wide = is.ranges s x.0 z few x.1 on in
-            let kept = of_a.says x.0 x.1 in
-            subst (λ k. ContainsKept k z.0 literals) (sym is.faults) (record {
+        value = λ new_path on. follows old_path.0.1 new_path.1 (of_a.value old_path.0 old_path.1)
+            (is.value s old_path.0 new_path few old_path.1 on);
+        says = λ new_path on.
+            let wide = is.ranges s old_path.0 new_path few old_path.1 on in
+            let kept = of_a.says old_path.0 old_path.1 in
+            subst (λ k. ContainsKept k new_path.0 literals) (sym is.faults) (record {
               low = λ v. omega (arith, wide.low v, kept.low v);
               high = λ v. omega (arith, wide.high v, kept.high v);
             });
@@ -105,17 +108,18 @@ module _ (s : Scenario) where
       Agrees s by_b fact_b b → Agrees s (by_a ++ by_b) fact r
   agrees_join answers a b r by_a by_b fact_a fact_b fact few same each_a each_b is follows of_a of_b =
       -- the paths of the two trees that the scenario takes
-      let x = the_path a.faults a.paths each_a s few in
-      let y = the_path a.faults b.paths each_b s few in
+      let a_path = the_path a.faults a.paths each_a s few in
+      let b_path = the_path a.faults b.paths each_b s few in
       record {
-        value = λ z on.
-            follows x.0.1 y.0.1 z.1 (of_a.value x.0 x.1) (of_b.value y.0 y.1) (is.value s x.0 y.0 z few x.1 y.1 on);
+        value = λ r_path on.
+            follows a_path.0.1 b_path.0.1 r_path.1 (of_a.value a_path.0 a_path.1) (of_b.value b_path.0 b_path.1)
+            (is.value s a_path.0 b_path.0 r_path few a_path.1 b_path.1 on);
         -- the path's literals say no more than those of the two
-        says = λ z on.
-            let wide = is.ranges s x.0 y.0 z few x.1 y.1 on in
-            let kept_a = of_a.says x.0 x.1 in
-            let kept_b = subst (λ k. ContainsKept k y.0.0 by_b) same (of_b.says y.0 y.1) in
-            subst (λ k. ContainsKept k z.0 (by_a ++ by_b)) (sym is.faults) (record {
+        says = λ r_path on.
+            let wide = is.ranges s a_path.0 b_path.0 r_path few a_path.1 b_path.1 on in
+            let kept_a = of_a.says a_path.0 a_path.1 in
+            let kept_b = subst (λ k. ContainsKept k b_path.0.0 by_b) same (of_b.says b_path.0 b_path.1) in
+            subst (λ k. ContainsKept k r_path.0 (by_a ++ by_b)) (sym is.faults) (record {
               low = λ v. omega (arith, wide.low v, kept_a.low v, kept_b.low v, kept_low_both by_a by_b v);
               high = λ v. omega (
                 arith,
@@ -140,23 +144,25 @@ module _ (s : Scenario) where
       Agrees s (chosen_by ++ (by_a ++ by_b)) fact r
   agrees_where answers none chooser a b r chosen_by by_a by_b fact_a fact_b fact few same_a same_b each_c each_a each_b
       is follows of_c of_a of_b =
-      -- the paths c, x and y of the scenario in the three trees decide the value, and the literals on the path in the
+      -- the scenario's paths in the chooser and in the two trees decide the value, and the literals on the path in the
       -- join are those that the three paths say
-      let c = the_path chooser.faults chooser.paths each_c s few in
-      let x = the_path chooser.faults a.paths each_a s few in
-      let y = the_path chooser.faults b.paths each_b s few in
-      let chosen = of_c.value c.0 c.1 in
+      let chooser_path = the_path chooser.faults chooser.paths each_c s few in
+      let a_path = the_path chooser.faults a.paths each_a s few in
+      let b_path = the_path chooser.faults b.paths each_b s few in
+      let chosen = of_c.value chooser_path.0 chooser_path.1 in
       record {
         -- the value is the one that follows
-        value = λ z on. follows x.0.1 y.0.1 z.1 (of_a.value x.0 x.1) (of_b.value y.0 y.1)
-            (is.on s c.0 x.0 y.0 z few c.1 chosen x.1 y.1 on);
+        value = λ r_path on. follows a_path.0.1 b_path.0.1 r_path.1 (of_a.value a_path.0 a_path.1)
+            (of_b.value b_path.0 b_path.1)
+            (is.on s chooser_path.0 a_path.0 b_path.0 r_path few chooser_path.1 chosen a_path.1 b_path.1 on);
         -- the path says no more than the three paths, whose literals these are
-        says = λ z on.
-            let wide = is.on_ranges s c.0 x.0 y.0 z few c.1 chosen x.1 y.1 on in
-            let kept_c = of_c.says c.0 c.1 in
-            let kept_a = subst (λ k. ContainsKept k x.0.0 by_a) same_a (of_a.says x.0 x.1) in
-            let kept_b = subst (λ k. ContainsKept k y.0.0 by_b) same_b (of_b.says y.0 y.1) in
-            subst (λ k. ContainsKept k z.0 (chosen_by ++ (by_a ++ by_b))) (sym is.faults) (record {
+        says = λ r_path on.
+            let wide = is.on_ranges s chooser_path.0 a_path.0 b_path.0 r_path few chooser_path.1 chosen a_path.1
+            b_path.1 on in
+            let kept_c = of_c.says chooser_path.0 chooser_path.1 in
+            let kept_a = subst (λ k. ContainsKept k a_path.0.0 by_a) same_a (of_a.says a_path.0 a_path.1) in
+            let kept_b = subst (λ k. ContainsKept k b_path.0.0 by_b) same_b (of_b.says b_path.0 b_path.1) in
+            subst (λ k. ContainsKept k r_path.0 (chosen_by ++ (by_a ++ by_b))) (sym is.faults) (record {
               low = λ v. omega (
                 arith,
                 wide.low v,
@@ -187,14 +193,14 @@ module _ (s : Scenario) where
       → Agrees s chosen_by (λ z. z ≡ none) r
   agrees_elsewhere answers none chooser a b r chosen_by few each is of_c =
       -- the path of the chooser that the scenario takes, whose value is false
-      let c = the_path chooser.faults chooser.paths each s few in
-      let chosen = of_c.value c.0 c.1 in
+      let chooser_path = the_path chooser.faults chooser.paths each s few in
+      let chosen = of_c.value chooser_path.0 chooser_path.1 in
       record {
-        value = λ z on. is.off s c.0 z few c.1 chosen on;
-        says = λ z on.
-            let wide = is.off_ranges s c.0 z few c.1 chosen on in
-            let kept = of_c.says c.0 c.1 in
-            subst (λ k. ContainsKept k z.0 chosen_by) (sym is.faults) (record {
+        value = λ r_path on. is.off s chooser_path.0 r_path few chooser_path.1 chosen on;
+        says = λ r_path on.
+            let wide = is.off_ranges s chooser_path.0 r_path few chooser_path.1 chosen on in
+            let kept = of_c.says chooser_path.0 chooser_path.1 in
+            subst (λ k. ContainsKept k r_path.0 chosen_by) (sym is.faults) (record {
               low = λ v. omega (arith, wide.low v, kept.low v);
               high = λ v. omega (arith, wide.high v, kept.high v);
             });
@@ -212,21 +218,22 @@ module _ (s : Scenario) where
       Agrees s (by_chooser ++ by_picked) fact r
   agrees_pick {T} chooser on off r b by_chooser by_picked fact few same_on same_off each_c each_on each_off is of_c of_picked =
       -- the path of the scenario in the chooser, and that in the tree that it picks
-      let c = the_path chooser.faults chooser.paths each_c s few in
-      let chosen : c.0.1 ≡ b = of_c.value c.0 c.1 in
-      let x = picked_path b in
-      let here : IsOnPath (if c.0.1 then on.paths else off.paths) s x.0 =
-      subst (λ (d : Bool). IsOnPath (if d then on.paths else off.paths) s x.0) (sym chosen) x.1 in
+      let chooser_path = the_path chooser.faults chooser.paths each_c s few in
+      let chosen : chooser_path.0.1 ≡ b = of_c.value chooser_path.0 chooser_path.1 in
+      let its_path = picked_path b in
+      let here : IsOnPath (if chooser_path.0.1 then on.paths else off.paths) s its_path.0 =
+      subst (λ (d : Bool). IsOnPath (if d then on.paths else off.paths) s its_path.0) (sym chosen) its_path.1 in
       record {
         -- the value is that of the tree that is picked
         value =
-            λ z there. subst fact (sym (is.value s c.0 x.0 z few c.1 here there)) (picked_value b of_picked x.0 x.1);
+            λ r_path there. subst fact (sym (is.value s chooser_path.0 its_path.0 r_path few chooser_path.1 here there))
+            (picked_value b of_picked its_path.0 its_path.1);
         -- the path says no more than these two paths
-        says = λ z there.
-            let wide = is.ranges s c.0 x.0 z few c.1 here there in
-            let kept_c = of_c.says c.0 c.1 in
-            let kept_x = picked_says b of_picked x.0 x.1 in
-            subst (λ k. ContainsKept k z.0 (by_chooser ++ by_picked)) (sym is.faults) (record {
+        says = λ r_path there.
+            let wide = is.ranges s chooser_path.0 its_path.0 r_path few chooser_path.1 here there in
+            let kept_c = of_c.says chooser_path.0 chooser_path.1 in
+            let kept_x = picked_says b of_picked its_path.0 its_path.1 in
+            subst (λ k. ContainsKept k r_path.0 (by_chooser ++ by_picked)) (sym is.faults) (record {
               low = λ v. omega (arith, wide.low v, kept_c.low v, kept_x.low v, kept_low_both by_chooser by_picked v);
               high = λ v. omega (
                 arith,
@@ -246,15 +253,15 @@ module _ (s : Scenario) where
       -- its value has the fact
       picked_value : (d : Bool) → Agrees s by_picked fact (if d then on else off) → (x : Path T) →
           IsOnPath (if d then on.paths else off.paths) s x → fact x.1
-      picked_value true a x h = a.value x h
-      picked_value false a x h = a.value x h
+      picked_value true agreed x on_path = agreed.value x on_path
+      picked_value false agreed x on_path = agreed.value x on_path
 
       -- its path says no more than the second literals
       picked_says : (d : Bool) → Agrees s by_picked fact (if d then on else off) → (x : Path T) →
           IsOnPath (if d then on.paths else off.paths) s x →
           ContainsKept chooser.faults x.0 by_picked
-      picked_says true a x h = subst (λ k. ContainsKept k x.0 by_picked) same_on (a.says x h)
-      picked_says false a x h = subst (λ k. ContainsKept k x.0 by_picked) same_off (a.says x h)
+      picked_says true agreed x on_path = subst (λ k. ContainsKept k x.0 by_picked) same_on (agreed.says x on_path)
+      picked_says false agreed x on_path = subst (λ k. ContainsKept k x.0 by_picked) same_off (agreed.says x on_path)
 
   -- a tree of a variable's number has that number, by the literal that says it
   pub agrees_number : {T : Type 0} (v k : ℕ) (number : T → ℕ) (t : TreeState T) → HasAtMostFaults k s →
@@ -263,27 +270,27 @@ module _ (s : Scenario) where
       Agrees s (exactly v (number_of s v) ∷ []) (λ x. number x ≡ number_of s v) t
   agrees_number v k number t few most is = record {
     -- the path of the scenario has the variable's number as its value
-    value = λ x on. is.value s x few on;
-    says = λ x on. subst (λ m. ContainsKept m x.0 (exactly v (number_of s v) ∷ [])) (sym is.faults) (record {
+    value = λ path on. is.value s path few on;
+    says = λ path on. subst (λ m. ContainsKept m path.0 (exactly v (number_of s v) ∷ [])) (sym is.faults) (record {
       -- a low that isn't 0 is that of the variable, at most its number
       low = λ u. elim (cases_eq u v) [
-        | inl e ↦ subst (λ w. low_in x.0 w ≤ kept_low (exactly v (number_of s v) ∷ []) w) (sym e)
+        | inl is_v ↦ subst (λ w. low_in path.0 w ≤ kept_low (exactly v (number_of s v) ∷ []) w) (sym is_v)
             (omega (
               arith,
-              low_in-le x.0 s v on.matched,
+              low_in-le path.0 s v on.matched,
               low_kept (exactly v (number_of s v) ∷ []) v (exactly v (number_of s v)) (Contains-first _ []) refl,
             ))
-        | inr n ↦ omega (arith, is.low s x u few on n)
+        | inr other ↦ omega (arith, is.low s path u few on other)
       ];
       -- a high that isn't the top is that of the variable, at least its number
       high = λ u. elim (cases_eq u v) [
-        | inl e ↦ subst (λ w. kept_high k (exactly v (number_of s v) ∷ []) w ≤ high_in k x.0 w) (sym e)
+        | inl is_v ↦ subst (λ w. kept_high k (exactly v (number_of s v) ∷ []) w ≤ high_in k path.0 w) (sym is_v)
             (omega (
               arith,
-              high_in-ge k x.0 s v most on.matched,
+              high_in-ge k path.0 s v most on.matched,
               high_kept (exactly v (number_of s v) ∷ []) v k (exactly v (number_of s v)) (Contains-first _ []) refl,
             ))
-        | inr n ↦ omega (arith, is.high s x u few on n, high_kept_top (exactly v (number_of s v) ∷ []) u k)
+        | inr other ↦ omega (arith, is.high s path u few on other, high_kept_top (exactly v (number_of s v) ∷ []) u k)
       ];
     });
   }

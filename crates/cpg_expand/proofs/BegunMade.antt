@@ -45,9 +45,9 @@ module _ (g : Graph) (order : List ℕ) (guards : Guards) (admitted : IsAdmitted
   -- the leaves of a process's guard lead to edges of the graph
   pub leads_here : (p : ℕ) → p < process_count g → (guard : Guard) → guard ≡ tree_of guards p →
       LeadsBelow (edge_count h) guard
-  leads_here p l guard is = subst (λ (k : Graph). LeadsBelow (edge_count k) guard) (sym same)
-      (leads_below g order admitted.topological p l guard
-      (subst (IsGuardOf g order p) (sym is) (admitted.guards.trees p l)))
+  leads_here p below guard is = subst (λ (k : Graph). LeadsBelow (edge_count k) guard) (sym same)
+      (leads_below g order admitted.topological p below guard
+      (subst (IsGuardOf g order p) (sym is) (admitted.guards.trees p below)))
 
 -- the guards of an admitted graph and an order of its processes are what the code asks for
 pub along_here : (g : Graph) (urgency : List ℕ) (guards : Guards) → IsAdmitted g urgency guards → (h : Graph) → h ≡ g →
@@ -67,7 +67,7 @@ along_here g urgency guards admitted h same found is order long = subst (λ (k :
 -- the inputs of a process are edges of the graph
 pub inputs_here : (h : Graph) (p : ℕ) (edges : List ℕ) → edges ≡ inputs h p → All (λ e. e < edge_count h) edges
 inputs_here h p edges is =
-    all_below (edge_count h) (edge_count h) edges (inputs h p) refl is (λ e c. (inputs_parts h p e c).0)
+    all_below (edge_count h) (edge_count h) edges (inputs h p) refl is (λ e is_input. (inputs_parts h p e is_input).0)
 
 -- the latest start that is found by what the code reads (the graph k, `other`, `found`, `at` and `es`) is that by the
 -- graph h, the order, the guards, the node and the inputs `edges`, which are the same
@@ -93,8 +93,8 @@ latest_as f from p active latest h k same order other in_order guards found is n
 
 -- what is put for the node's readiness is of the graph: the process itself, or a tree
 ready_waits : (g : Graph) (p : ℕ) (r : Ready) → p < process_count g → IsReadyAfter g p r → IsWait g r
-ready_waits g p (After q) l e = subst (λ n. n < process_count g) (sym e) l
-ready_waits g p (At t) l is = is
+ready_waits g p (After q) below is_p = subst (λ n. n < process_count g) (sym is_p) below
+ready_waits g p (At t) below is = is
 
 -- if `times`, `ends` and `ready` are put for p's start, its end and its node, the forest `new` still has a tree for
 -- each item, process and node
@@ -111,24 +111,27 @@ pub has_begun : (g : Graph) (f new : ForestState) (p node : ℕ) (times ends : T
     } → HasTrees g new
 -- each list keeps its length and gets one more tree of the graph; a node that is ready after a process is the one
 -- just put, or one of before
-has_begun g f new p node times ends ready l at has of_times of_ends of_ready is = subst (HasTrees g) (sym is) (record {
-  times = length-set f.times p times ∙ has.times;
-  ends = length-set f.ends p ends ∙ has.ends;
-  ready = length-set f.ready node ready ∙ has.ready;
-  free = has.free;
-  all_times = All-set (IsTree g) f.times p times of_times has.all_times;
-  all_ends = All-set (IsTree g) f.ends p ends of_ends has.all_ends;
-  all_ready = All-set (IsWait g) f.ready node ready (ready_waits g p ready l of_ready) has.all_ready;
-  all_free = has.all_free;
-  own = λ n q within e. elim (cases_eq n node) [
-    | inl here ↦
-        let there : After q ≡ ready = sym e ∙ ap (λ m. get_or (set f.ready node ready) m (At (no_tree g.faults))) here ∙
-        get_or-set_same f.ready node ready (At (no_tree g.faults)) (omega (arith, within, here, has.ready)) in
-        let same : q ≡ p = subst (IsReadyAfter g p) (sym there) of_ready in
-        ap (node_of g) same ∙ sym at ∙ sym here
-    | inr other ↦ has.own n q within (sym (get_or-set_other f.ready node n ready (At (no_tree g.faults)) other) ∙ e)
-  ];
-})
+has_begun g f new p node times ends ready below at has of_times of_ends of_ready is =
+    subst (HasTrees g) (sym is) (record {
+      times = length-set f.times p times ∙ has.times;
+      ends = length-set f.ends p ends ∙ has.ends;
+      ready = length-set f.ready node ready ∙ has.ready;
+      free = has.free;
+      all_times = All-set (IsTree g) f.times p times of_times has.all_times;
+      all_ends = All-set (IsTree g) f.ends p ends of_ends has.all_ends;
+      all_ready = All-set (IsWait g) f.ready node ready (ready_waits g p ready below of_ready) has.all_ready;
+      all_free = has.all_free;
+      own = λ n q within after_q. elim (cases_eq n node) [
+        | inl here ↦
+            let there : After q ≡ ready =
+            sym after_q ∙ ap (λ m. get_or (set f.ready node ready) m (At (no_tree g.faults))) here ∙
+            get_or-set_same f.ready node ready (At (no_tree g.faults)) (omega (arith, within, here, has.ready)) in
+            let same : q ≡ p = subst (IsReadyAfter g p) (sym there) of_ready in
+            ap (node_of g) same ∙ sym at ∙ sym here
+        | inr other ↦ has.own n q within (sym (get_or-set_other f.ready node n ready (At (no_tree g.faults)) other)
+            ∙ after_q)
+      ];
+    })
 
 -- trees for the activity, the start, the end and the readiness, each put in its place, are what is found of a process
 -- before it sends

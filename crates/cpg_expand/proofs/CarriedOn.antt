@@ -32,12 +32,12 @@ use Rattle.cpg_expand.specs.Guarded.{value_known, support_of}
 
 -- each literal of a column that matches the scenario is carried by the row
 pub valued_there : (rows : List (List Column)) (s : Scenario) (x : ℕ) (c : Column) → Contains (row_at rows x) c →
-    matches c.cube s ≡ true → (l : Literal) →
-    Contains c.cube l →
-    Contains (carried_by_row rows s x) l
-valued_there rows s x c j m l i =
-    Contains-flat_map (λ (d : Column). d.cube) (filter (λ (d : Column). matches d.cube s) (row_at rows x)) c l
-    (Contains-filter (λ (d : Column). matches d.cube s) (row_at rows x) c m j) i
+    matches c.cube s ≡ true → (literal : Literal) →
+    Contains c.cube literal →
+    Contains (carried_by_row rows s x) literal
+valued_there rows s x c in_row matching literal in_cube =
+    Contains-flat_map (λ (d : Column). d.cube) (filter (λ (d : Column). matches d.cube s) (row_at rows x)) c literal
+    (Contains-filter (λ (d : Column). matches d.cube s) (row_at rows x) c matching in_row) in_cube
 
 -- if the path of t that s is on has a value with the fact, and its cube is that of a column of x's row, t agrees with
 -- what that row carries in s
@@ -49,10 +49,11 @@ pub valued_by_tree : {T : Type 0} (k : ℕ) (rows : List (List Column)) (s : Sce
 valued_by_tree k rows s x fact t same there = record {
   value = λ p on. (there p on).0;
   says = λ p on.
-      let c = (there p on).1 in
+      let column = (there p on).1 in
       let kept = range_known t.faults (carried_by_row rows s x) p.0
-      (λ l i. valued_there rows s x c.0 c.1 (subst (λ (ls : List Literal). matches ls s ≡ true) (sym c.2) on.matched) l
-      (subst (λ (ls : List Literal). Contains ls l) (sym c.2) i)) in
+      (λ literal listed. valued_there rows s x column.0 column.1
+      (subst (λ (ls : List Literal). matches ls s ≡ true) (sym column.2) on.matched) literal
+      (subst (λ (ls : List Literal). Contains ls literal) (sym column.2) listed)) in
       record { low = λ v. (kept v).0; high = λ v. (kept v).1 };
 }
 
@@ -65,13 +66,13 @@ module _ (g : Graph) (order : List ℕ) (topological : IsTopological g order) (r
   before_grows : (p q r : ℕ) → Contains (before_on_node g order p) q → Contains (before_on_node g order q) r →
       Contains (before_on_node g order p) r
   -- both stand on the node of p, and the order between places goes on
-  before_grows p q r j i =
-      let of_q = on_node_before g order p q j in
-      let of_r = on_node_before g order q r i in
+  before_grows p q r q_before r_before =
+      let of_q = on_node_before g order p q q_before in
+      let of_r = on_node_before g order q r r_before in
       let node_q = eqb-true (node_of g q) (node_of g p)
-      (Contains-filter_parts (λ (u : ℕ). node_of g u == node_of g p) (before order p) q j).1 in
+      (Contains-filter_parts (λ (u : ℕ). node_of g u == node_of g p) (before order p) q q_before).1 in
       let node_r = eqb-true (node_of g r) (node_of g q)
-      (Contains-filter_parts (λ (u : ℕ). node_of g u == node_of g q) (before order q) r i).1 in
+      (Contains-filter_parts (λ (u : ℕ). node_of g u == node_of g q) (before order q) r r_before).1 in
       Contains-filter (λ (u : ℕ). node_of g u == node_of g p) (before order p) r
       (eq-eqb (node_of g r) (node_of g p) (node_r ∙ node_q))
       (Contains-before order r p of_r.0 (omega (arith, of_q.1, of_r.1)))
@@ -82,35 +83,35 @@ module _ (g : Graph) (order : List ℕ) (topological : IsTopological g order) (r
 
   -- a process passes on what decides it
   passed_decided : (q : ℕ) (l : Literal) → Contains (decided g s q) l → Contains (passed g rows s q) l
-  passed_decided q l j = Contains-append_left (decided g s q ++ heard g rows s q) (executed_if q) l
-      (Contains-append_left (decided g s q) (heard g rows s q) l j)
+  passed_decided q l decides = Contains-append_left (decided g s q ++ heard g rows s q) (executed_if q) l
+      (Contains-append_left (decided g s q) (heard g rows s q) l decides)
 
   -- a process passes on what it hears
   passed_heard : (q : ℕ) (l : Literal) → Contains (heard g rows s q) l → Contains (passed g rows s q) l
-  passed_heard q l j = Contains-append_left (decided g s q ++ heard g rows s q) (executed_if q) l
-      (Contains-append_right (decided g s q) (heard g rows s q) l j)
+  passed_heard q l hears = Contains-append_left (decided g s q ++ heard g rows s q) (executed_if q) l
+      (Contains-append_right (decided g s q) (heard g rows s q) l hears)
 
   -- a process passes on what its execution says, if it is active
   passed_executed : (q : ℕ) (l : Literal) → active g s.values q ≡ true → Contains (executed g rows s q) l →
       Contains (passed g rows s q) l
-  passed_executed q l on j = Contains-append_right (decided g s q ++ heard g rows s q) (executed_if q) l
-      (subst (λ (b : Bool). Contains (if b then executed g rows s q else []) l) (sym on) j)
+  passed_executed q l on says = Contains-append_right (decided g s q ++ heard g rows s q) (executed_if q) l
+      (subst (λ (b : Bool). Contains (if b then executed g rows s q else []) l) (sym on) says)
 
   -- if q stands before p on p's node and is active, the node carries on to p what is carried beside the end of q
   pub end_carried : (p q : ℕ) → Contains (before_on_node g order p) q → active g s.values q ≡ true → (l : Literal) →
       Contains (carried_at_end g order rows s q) l →
       Contains (flat_map (passed g rows s) (before_on_node g order p)) l
-  end_carried p q j on l i = by (process_at g q).frozen refl
+  end_carried p q q_before on l at_end = by (process_at g q).frozen refl
     where
       -- a literal that q passes on is among those that are passed before p
       here : Contains (passed g rows s q) l → Contains (flat_map (passed g rows s) (before_on_node g order p)) l
-      here k = Contains-flat_map (passed g rows s) (before_on_node g order p) q l j k
+      here passes = Contains-flat_map (passed g rows s) (before_on_node g order p) q l q_before passes
 
       -- q's own fault count is part of what its execution says
       count : (f : Bool) → (process_at g q).frozen ≡ f → Contains (number_known s q ∷ []) l →
           Contains (executed g rows s q) l
-      count f e k = Contains-append_right (if (process_at g q).frozen then [] else received g rows s q)
-          (number_known s q ∷ []) l k
+      count f frozen_is is_count = Contains-append_right (if (process_at g q).frozen then [] else received g rows s q)
+          (number_known s q ∷ []) l is_count
 
       -- what q carries at its start, if that is `ls` for an unfrozen q
       start : List Literal → List Literal
@@ -123,23 +124,25 @@ module _ (g : Graph) (order : List ℕ) (topological : IsTopological g order) (r
 
       -- what q carries at its end is what it carries at its start, or its own fault count
       split : Contains (start all) l ⊎ Contains (number_known s q ∷ []) l
-      split = Contains-append_cases (start all) (number_known s q ∷ []) l i
+      split = Contains-append_cases (start all) (number_known s q ∷ []) l at_end
 
       -- if q is frozen, what it carries at its start decides it, and is passed on
       frozen_case : (process_at g q).frozen ≡ true → Contains (start all) l →
           Contains (flat_map (passed g rows s) (before_on_node g order p)) l
-      frozen_case e k =
-          here (passed_decided q l (subst (λ (f : Bool). Contains (if f then decided g s q else all) l) e k))
+      frozen_case frozen at_start =
+          here (passed_decided q l (subst (λ (f : Bool). Contains (if f then decided g s q else all) l) frozen
+          at_start))
 
       -- a literal carried at the start of an unfrozen process is passed by it or by a process before it on the node
       unfrozen_case : Contains all l → (process_at g q).frozen ≡ false →
           Contains (flat_map (passed g rows s) (before_on_node g order p)) l
-      unfrozen_case k e = elim (Contains-append_cases (flat_map (passed g rows s) (before_on_node g order q)
-          ++ decided g s q ++ heard g rows s q) (received g rows s q) l k) [
+      unfrozen_case carries unfrozen =
+          elim (Contains-append_cases (flat_map (passed g rows s) (before_on_node g order q)
+          ++ decided g s q ++ heard g rows s q) (received g rows s q) l carries) [
             -- messages to q told it, or it was passed before q, decides q or was heard by it
             | inr told ↦ here (passed_executed q l on (Contains-append_left (if (process_at g q).frozen then []
                 else received g rows s q) (number_known s q ∷ []) l
-                (subst (λ (f : Bool). Contains (if f then [] else received g rows s q) l) (sym e) told)))
+                (subst (λ (f : Bool). Contains (if f then [] else received g rows s q) l) (sym unfrozen) told)))
             | inl of_wait ↦
                 elim (Contains-append_cases (flat_map (passed g rows s) (before_on_node g order q) ++ decided g s q)
                 (heard g rows s q) l of_wait) [
@@ -149,27 +152,28 @@ module _ (g : Graph) (order : List ℕ) (topological : IsTopological g order) (r
                       (decided g s q) l unheard) [
                         | inr deciding_it ↦ here (passed_decided q l deciding_it)
                         | inl earlier ↦
-                            let r =
+                            let source =
                             Contains-flat_map_parts (passed g rows s) (before_on_node g order q) l earlier in
-                            Contains-flat_map (passed g rows s) (before_on_node g order p) r.0 l
-                            (before_grows p q r.0 j r.1) r.2
+                            Contains-flat_map (passed g rows s) (before_on_node g order p) source.0 l
+                            (before_grows p q source.0 q_before source.1) source.2
                       ]
                 ]
           ]
 
       -- the literal is passed on before p: either as q's own count or as one of its start
       by : (f : Bool) → (process_at g q).frozen ≡ f → Contains (flat_map (passed g rows s) (before_on_node g order p)) l
-      by f e = elim split [
-        | inr k ↦ here (passed_executed q l on (count f e k))
-        | inl k ↦ of_start f e k
+      by f frozen_is = elim split [
+        | inr is_count ↦ here (passed_executed q l on (count f frozen_is is_count))
+        | inl at_start ↦ of_start f frozen_is at_start
       ]
         where
           -- a literal of the start, by whether q is frozen
           of_start : (f : Bool) → (process_at g q).frozen ≡ f → Contains (start all) l →
               Contains (flat_map (passed g rows s) (before_on_node g order p)) l
-          of_start true e k = frozen_case e k
-          of_start false e k =
-              unfrozen_case (subst (λ (f : Bool). Contains (if f then decided g s q else all) l) e k) e
+          of_start true frozen_is at_start = frozen_case frozen_is at_start
+          of_start false frozen_is at_start =
+              unfrozen_case (subst (λ (f : Bool). Contains (if f then decided g s q else all) l) frozen_is at_start)
+              frozen_is
 
   -- ---- of conditions that a node hears
 
@@ -181,9 +185,9 @@ module _ (g : Graph) (order : List ℕ) (topological : IsTopological g order) (r
   -- a process that stands before p and is on p's node is among those before p on it
   own_before : (p q : ℕ) → q < process_count g → place order q < place order p → node_of g q ≡ node_of g p →
       Contains (before_on_node g order p) q
-  own_before p q l less same = Contains-filter (λ (u : ℕ). node_of g u == node_of g p) (before order p) q
+  own_before p q below less same = Contains-filter (λ (u : ℕ). node_of g u == node_of g p) (before order p) q
       (eq-eqb (node_of g q) (node_of g p) same)
-      (Contains-before order q p (Contains-order (process_count g) order topological.all q l) less)
+      (Contains-before order q p (Contains-order (process_count g) order topological.all q below) less)
 
   -- given: an urgency order, by which conditions decide, and a process
   module _ (urgency : List ℕ) (is_urgency : IsUrgencyOrder g urgency) (urgent : IsTopological g urgency) (p : ℕ) where
@@ -191,28 +195,30 @@ module _ (g : Graph) (order : List ℕ) (topological : IsTopological g order) (r
     pub heard_carried : (c : ℕ) → Contains (deciding g s.values p) c → (l : Literal) →
         Contains (heard_support (node_of g p) c) l →
         Contains (flat_map (passed g rows s) (before_on_node g order p) ++ heard g rows s p) l
-    heard_carried c j l i =
+    heard_carried c decides_p l says =
         -- the condition c, which decides p
-        let r = Contains-filter_parts (decides g s.values p) (numbers_below (condition_count g)) c j in
-        let low = numbers-Contains (condition_count g) c r.0 in
+        let parts = Contains-filter_parts (decides g s.values p) (numbers_below (condition_count g)) c decides_p in
+        let low = numbers-Contains (condition_count g) c parts.0 in
         elim (cases_eq (node_of g (process_of g c)) (node_of g p)) [
           -- its process is on the node: its end is carried
-          | inl e ↦ Contains-append_left (flat_map (passed g rows s) (before_on_node g order p)) (heard g rows s p) l
+          | inl same_node ↦ Contains-append_left (flat_map (passed g rows s) (before_on_node g order p))
+              (heard g rows s p) l
               (end_carried p (process_of g c) (own_before p (process_of g c) (process_of_below g c low)
-              (decides_earlier g order topological s.values p c low r.1) e)
-              (deciding_is_active g urgency is_urgency urgent s.values p c low r.1) l
+              (decides_earlier g order topological s.values p c low parts.1) same_node)
+              (deciding_is_active g urgency is_urgency urgent s.values p c low parts.1) l
               (subst (λ (b : Bool). Contains (if b then carried_at_end g order rows s (process_of g c)
               else carried_by_row rows s (broadcast_item g c)) l)
-              (eq-eqb (node_of g (process_of g c)) (node_of g p) e) i))
+              (eq-eqb (node_of g (process_of g c)) (node_of g p) same_node) says))
           -- it is heard there by a broadcast
-          | inr n ↦ Contains-append_right (flat_map (passed g rows s) (before_on_node g order p)) (heard g rows s p) l
+          | inr elsewhere ↦ Contains-append_right (flat_map (passed g rows s) (before_on_node g order p))
+              (heard g rows s p) l
               (Contains-flat_map (λ d. if node_of g (process_of g d) == node_of g p then []
-              else carried_by_row rows s (broadcast_item g d)) (deciding g s.values p) c l j
+              else carried_by_row rows s (broadcast_item g d)) (deciding g s.values p) c l decides_p
               (subst (λ (b : Bool). Contains (if b then [] else carried_by_row rows s (broadcast_item g c)) l)
-              (sym (ne_eqb (node_of g (process_of g c)) (node_of g p) n))
+              (sym (ne_eqb (node_of g (process_of g c)) (node_of g p) elsewhere))
               (subst (λ (b : Bool). Contains (if b then carried_at_end g order rows s (process_of g c)
               else carried_by_row rows s (broadcast_item g c)) l)
-              (ne_eqb (node_of g (process_of g c)) (node_of g p) n) i)))
+              (ne_eqb (node_of g (process_of g c)) (node_of g p) elsewhere) says)))
         ]
 
     -- if each of the conditions `ws` decides p, the literals by which p's node hears them, and those of their values,
@@ -221,23 +227,27 @@ module _ (g : Graph) (order : List ℕ) (topological : IsTopological g order) (r
         Contains (support_of s (heard_support (node_of g p)) ws) l →
         Contains (flat_map (passed g rows s) (before_on_node g order p) ++ decided g s p ++ heard g rows s p) l
     -- a literal is known of how a test is heard, or it is that test's value, which is among what decides p
-    tests_carried ws of l i =
-        let r = Contains-flat_map_parts (λ c. heard_support (node_of g p) c ++ value_known s c ∷ []) ws l i in
-        elim (Contains-append_cases (heard_support (node_of g p) r.0) (value_known s r.0 ∷ []) l r.2) [
+    tests_carried ws decides_each l says =
+        let source = Contains-flat_map_parts (λ c. heard_support (node_of g p) c ++ value_known s c ∷ []) ws l says in
+        elim (Contains-append_cases (heard_support (node_of g p) source.0) (value_known s source.0 ∷ []) l source.2) [
           | inl of_hearing ↦ elim (Contains-append_cases (flat_map (passed g rows s) (before_on_node g order p))
-              (heard g rows s p) l (heard_carried r.0 (of r.0 r.1) l of_hearing)) [
-                | inl n ↦ Contains-append_left (flat_map (passed g rows s) (before_on_node g order p) ++ decided g s p)
+              (heard g rows s p) l (heard_carried source.0 (decides_each source.0 source.1) l of_hearing)) [
+                | inl passes ↦ Contains-append_left
+                    (flat_map (passed g rows s) (before_on_node g order p) ++ decided g s p)
                     (heard g rows s p) l
-                    (Contains-append_left (flat_map (passed g rows s) (before_on_node g order p)) (decided g s p) l n)
-                | inr n ↦ Contains-append_right (flat_map (passed g rows s) (before_on_node g order p) ++ decided g s p)
-                    (heard g rows s p) l n
+                    (Contains-append_left (flat_map (passed g rows s) (before_on_node g order p))
+                    (decided g s p) l passes)
+                | inr hears ↦ Contains-append_right
+                    (flat_map (passed g rows s) (before_on_node g order p) ++ decided g s p)
+                    (heard g rows s p) l hears
               ]
-          | inr of_value ↦ elim (Contains-cases (value_known s r.0) [] l of_value) [
-            | inl e ↦ Contains-append_left (flat_map (passed g rows s) (before_on_node g order p) ++ decided g s p)
+          | inr of_value ↦ elim (Contains-cases (value_known s source.0) [] l of_value) [
+            | inl is_value ↦ Contains-append_left
+                (flat_map (passed g rows s) (before_on_node g order p) ++ decided g s p)
                 (heard g rows s p) l
                 (Contains-append_right (flat_map (passed g rows s) (before_on_node g order p)) (decided g s p) l
-                (subst (Contains (decided g s p)) e
-                (Contains-map (value_known s) (deciding g s.values p) r.0 (of r.0 r.1))))
+                (subst (Contains (decided g s p)) is_value
+                (Contains-map (value_known s) (deciding g s.values p) source.0 (decides_each source.0 source.1))))
             | inr none ↦ absurd (Contains-nil l none)
           ]
         ]
@@ -256,7 +266,7 @@ module _ (g : Graph) (order : List ℕ) (topological : IsTopological g order) (r
       active g s.values (source g e) ≡ true →
       (l : Literal) → Contains (input_support e) l →
       Contains (flat_map (passed g rows s) (before_on_node g order p) ++ received g rows s p) l
-  input_carried p e j way low on l i = by (is_message g e) refl way
+  input_carried p e is_input way low on l says = by (is_message g e) refl way
     where
       -- a literal of a message is received, and one of an input of the node itself is passed on
       by : (m : Bool) → is_message g e ≡ m → node_of g (source g e) ≡ node_of g p ⊎ (is_message g e ≡ true) →
@@ -264,21 +274,21 @@ module _ (g : Graph) (order : List ℕ) (topological : IsTopological g order) (r
       by true is w =
           Contains-append_right (flat_map (passed g rows s) (before_on_node g order p)) (received g rows s p) l
           (Contains-flat_map (λ d. if is_message g d then carried_by_row rows s (message_item g d) else [])
-          (inputs g p) e l j
+          (inputs g p) e l is_input
           (subst (λ (b : Bool). Contains (if b then carried_by_row rows s (message_item g e) else []) l) (sym is)
           (subst (λ (b : Bool). Contains (if b then carried_by_row rows s (message_item g e)
-          else carried_at_end g order rows s (source g e)) l) is i)))
+          else carried_at_end g order rows s (source g e)) l) is says)))
       by false is (inl same) =
           Contains-append_left (flat_map (passed g rows s) (before_on_node g order p)) (received g rows s p) l
           (end_carried p (source g e)
-          (own_before p (source g e) low (input_goes_up g order topological p e j) same) on l
+          (own_before p (source g e) low (input_goes_up g order topological p e is_input) same) on l
           (subst (λ (b : Bool). Contains (if b then carried_by_row rows s (message_item g e)
-          else carried_at_end g order rows s (source g e)) l) is i))
+          else carried_at_end g order rows s (source g e)) l) is says))
       by false is (inr other) = absurd (apart (sym is ∙ other))
         where
           -- what is excluded: an input of the node that is a message
           apart : false ≡ true → ⊥
-          apart e = cc
+          apart equal = cc
 
   -- ---- the start
 
@@ -287,7 +297,8 @@ module _ (g : Graph) (order : List ℕ) (topological : IsTopological g order) (r
       Contains (flat_map (passed g rows s) (before_on_node g order p) ++ decided g s p ++ heard g rows s p) l ⊎
       Contains (flat_map (passed g rows s) (before_on_node g order p) ++ received g rows s p) l →
       Contains (carried_at_start g order rows s p) l
-  start_carried p e l i = subst (λ (f : Bool). Contains (if f then decided g s p else all) l) (sym e) (by i)
+  start_carried p unfrozen l says =
+      subst (λ (f : Bool). Contains (if f then decided g s p else all) l) (sym unfrozen) (by says)
     where
       -- what the processes before p on its node pass on
       on : List Literal
@@ -300,12 +311,13 @@ module _ (g : Graph) (order : List ℕ) (topological : IsTopological g order) (r
       -- literals of the wait, and those of the inputs, are among all
       by : Contains (on ++ decided g s p ++ heard g rows s p) l ⊎ Contains (on ++ received g rows s p) l →
           Contains all l
-      by (inl m) = Contains-append_left (on ++ decided g s p ++ heard g rows s p) (received g rows s p) l m
-      by (inr m) = elim (Contains-append_cases on (received g rows s p) l m) [
-        | inr n ↦ Contains-append_right (on ++ decided g s p ++ heard g rows s p) (received g rows s p) l n
-        | inl n ↦ Contains-append_left (on ++ decided g s p ++ heard g rows s p) (received g rows s p) l
+      by (inl of_wait) = Contains-append_left (on ++ decided g s p ++ heard g rows s p) (received g rows s p) l of_wait
+      by (inr of_inputs) = elim (Contains-append_cases on (received g rows s p) l of_inputs) [
+        | inr is_received ↦ Contains-append_right (on ++ decided g s p ++ heard g rows s p)
+            (received g rows s p) l is_received
+        | inl passes ↦ Contains-append_left (on ++ decided g s p ++ heard g rows s p) (received g rows s p) l
             (Contains-append_left (on ++ decided g s p) (heard g rows s p) l
-            (Contains-append_left on (decided g s p) l n))
+            (Contains-append_left on (decided g s p) l passes))
       ]
 
   -- what decides p, and what was passed on before p on its node or is heard for p, the node carries on after p
@@ -314,11 +326,11 @@ module _ (g : Graph) (order : List ℕ) (topological : IsTopological g order) (r
       Contains (flat_map (passed g rows s) (before_on_node g order p) ++ decided g s p ++ heard g rows s p) l →
       Contains (flat_map (passed g rows s) (before_on_node g order p) ++ passed g rows s p) l
   -- literal by literal: those passed before stay, and those that decide p or are heard are passed on by p
-  ready_carried p l (inl m) = Contains-append_right (flat_map (passed g rows s) (before_on_node g order p))
-      (passed g rows s p) l (passed_decided p l m)
-  ready_carried p l (inr m) =
+  ready_carried p l (inl decides) = Contains-append_right (flat_map (passed g rows s) (before_on_node g order p))
+      (passed g rows s p) l (passed_decided p l decides)
+  ready_carried p l (inr of_wait) =
       elim (Contains-append_cases (flat_map (passed g rows s) (before_on_node g order p) ++ decided g s p)
-      (heard g rows s p) l m) [
+      (heard g rows s p) l of_wait) [
         | inr by_hearing ↦ Contains-append_right (flat_map (passed g rows s) (before_on_node g order p))
             (passed g rows s p) l (passed_heard p l by_hearing)
         | inl unheard ↦ elim (Contains-append_cases (flat_map (passed g rows s) (before_on_node g order p))
@@ -337,11 +349,11 @@ module _ (g : Graph) (order : List ℕ) (topological : IsTopological g order) (r
   pub end_parts : (q : ℕ) → active g s.values q ≡ true → (l : Literal) → Contains (carried_at_end g order rows s q) l →
       Contains (flat_map (passed g rows s) (before_on_node g order q)) l ⊎
       Contains (passed g rows s q) l
-  end_parts q on l i = elim (Contains-append_cases (if (process_at g q).frozen then decided g s q else all)
-      (number_known s q ∷ []) l i) [
-        | inr k ↦ inr (passed_executed q l on (Contains-append_right (if (process_at g q).frozen then []
-            else received g rows s q) (number_known s q ∷ []) l k))
-        | inl k ↦ of_start (process_at g q).frozen refl k
+  end_parts q on l at_end = elim (Contains-append_cases (if (process_at g q).frozen then decided g s q else all)
+      (number_known s q ∷ []) l at_end) [
+        | inr is_count ↦ inr (passed_executed q l on (Contains-append_right (if (process_at g q).frozen then []
+            else received g rows s q) (number_known s q ∷ []) l is_count))
+        | inl at_start ↦ of_start (process_at g q).frozen refl at_start
       ]
     where
       -- all that an unfrozen process carries at its start
@@ -354,12 +366,13 @@ module _ (g : Graph) (order : List ℕ) (topological : IsTopological g order) (r
       of_start : (f : Bool) → (process_at g q).frozen ≡ f → Contains (if f then decided g s q else all) l →
           Contains (flat_map (passed g rows s) (before_on_node g order q)) l ⊎
           Contains (passed g rows s q) l
-      of_start true e k = inr (passed_decided q l k)
-      of_start false e k = elim (Contains-append_cases (flat_map (passed g rows s) (before_on_node g order q)
-          ++ decided g s q ++ heard g rows s q) (received g rows s q) l k) [
+      of_start true frozen_is decides = inr (passed_decided q l decides)
+      of_start false unfrozen carries =
+          elim (Contains-append_cases (flat_map (passed g rows s) (before_on_node g order q)
+          ++ decided g s q ++ heard g rows s q) (received g rows s q) l carries) [
             | inr told ↦ inr (passed_executed q l on (Contains-append_left (if (process_at g q).frozen then []
                 else received g rows s q) (number_known s q ∷ []) l
-                (subst (λ (f : Bool). Contains (if f then [] else received g rows s q) l) (sym e) told)))
+                (subst (λ (f : Bool). Contains (if f then [] else received g rows s q) l) (sym unfrozen) told)))
             | inl of_wait ↦
                 elim (Contains-append_cases (flat_map (passed g rows s) (before_on_node g order q) ++ decided g s q)
                 (heard g rows s q) l of_wait) [

@@ -55,7 +55,8 @@ end_valued g p start t faults of_start number each made s few ls x has_value =
     (few_of g.faults start.faults s of_start.faults few) (number.faults ∙ sym of_start.faults)
     (each_of g start.faults start of_start.faults of_start)
     (subst (λ n. HasOnePathEach n faults.paths) (number.faults ∙ sym of_start.faults) each) made
-    (λ y n z e i h. h ∙ ap₂ (λ m o. ended (durations_of g p) m o) i e) has_value
+    (λ y n z is_start is_number is_made. is_made ∙ ap₂ (λ m o. ended (durations_of g p) m o) is_number is_start)
+    has_value
     (agrees_number s p g.faults (λ n. n) faults few (number_le_top g.faults s few p) number)
 
 -- If t picks `after`, the ends read as times, where the process is active, and `wait` elsewhere, then t says when the
@@ -85,10 +86,10 @@ ready_valued g active end wait after t of_active of_end of_wait later each known
   where
     -- the process is active: its end; or it isn't: when the wait is over
     picked : (d : Bool) → b ≡ d → Agrees s by_time (λ z. z ≡ v) (if d then after else wait)
-    picked true e = let both = ends e in
+    picked true acts = let both = ends acts in
         subst (λ n. Agrees s by_time (λ z. z ≡ n) after) (sym both.1)
         (later_has_value g 0 end after of_end later s few by_time x both.0)
-    picked false e = let both = waits e in subst (λ n. Agrees s by_time (λ z. z ≡ n) wait) (sym both.1) both.0
+    picked false idle = let both = waits idle in subst (λ n. Agrees s by_time (λ z. z ≡ n) wait) (sym both.1) both.0
 
 -- a chooser that is true everywhere is true in this scenario
 always_true : (active : TreeState Bool) → IsConstant true active.faults active →
@@ -106,8 +107,8 @@ pub ready_always : (g : Graph) (active : TreeState Bool) (end : TreeState (Optio
 ready_always g active end wait always s few b by_active by_time x w v of_b ends waits =
     let both = ends (always_true active always s b by_active of_b) in
     agrees_weaker s (later_tree end) by_time (by_active ++ by_time) (λ z. z ≡ time_later 0 x) (λ z. z ≡ v)
-    (λ l j. Contains-append_right by_active by_time l j)
-    (λ z e. e ∙ sym both.1)
+    (λ literal listed. Contains-append_right by_active by_time literal listed)
+    (λ z equal. equal ∙ sym both.1)
     (to_ends s end by_time x both.0)
 
 -- if `read` has the values of `tree` and says no more, t, which says when a node goes on by the wait `read`, says so by
@@ -117,7 +118,8 @@ pub ready_after : (k : ℕ) (active : TreeState Bool) (end : TreeState (Option �
     IsReadyTree k active end read t →
     IsReadyTree k active end tree t
 ready_after k active end tree read t none readies s few b by_active by_time x w v of_b ends waits =
-    readies s few b by_active by_time x w v of_b ends (λ e. let r = waits e in (none s few by_time w r.0, r.1))
+    readies s few b by_active by_time x w v of_b ends (λ idle. let waited = waits idle in
+    (none s few by_time w waited.0, waited.1))
 
 -- if `heard` says when the node has heard what the guard tests, and t has the later of that and of when the node is
 -- ready, t says when the wait is over
@@ -134,8 +136,8 @@ pub wait_leaf : (g : Graph) (f : ForestState) (node : ℕ) (a : Activation) →
     IsWaitTree g f node (Leaf a) (ready_of g f node)
 wait_leaf g f node a s few base x has_value support time valued =
     agrees_weaker s (ready_of g f node) base (base ++ []) (λ y. y ≡ x) (λ y. y ≡ max x 0)
-    (λ l j. Contains-append_left base [] l j)
-    (λ y e. omega (arith, e)) has_value
+    (λ literal listed. Contains-append_left base [] literal listed)
+    (λ y equal. omega (arith, equal)) has_value
 
 -- v, which the code finds at the place `at`, says when the node is ready
 pub ready_read : (g : Graph) (f : ForestState) → HasTrees g f → (i : ForestState) → i ≡ f → (v : Ready) (at node : ℕ) →
@@ -143,16 +145,17 @@ pub ready_read : (g : Graph) (f : ForestState) → HasTrees g f → (i : ForestS
     at ≡ node →
     node < length g.nodes →
     v ≡ ready_at g f node
-ready_read g f has i same v at node is e l =
+ready_read g f has i same v at node is is_node below =
     let long = ap (λ (h : ForestState). length h.ready) same in
-    get_or_read_under i.ready at (length i.ready) v (At (no_tree g.faults)) is (omega (arith, e, l, has.ready, long)) refl
-    ∙ ap (λ (h : ForestState). ready_at g h at) same ∙ ap (ready_at g f) e
+    get_or_read_under i.ready at (length i.ready) v (At (no_tree g.faults)) is
+    (omega (arith, is_node, below, has.ready, long)) refl
+    ∙ ap (λ (h : ForestState). ready_at g h at) same ∙ ap (ready_at g f) is_node
 
 -- for each node, what says when it is ready is a tree of the graph, or a process of it, after whose ends it is ready
 pub ready_waits : (g : Graph) (f : ForestState) → HasTrees g f → (node : ℕ) → node < length g.nodes →
     IsWait g (ready_at g f node)
-ready_waits g f has node l = All-get_or (IsWait g) f.ready node (At (no_tree g.faults))
-    (omega (arith, l, has.ready)) has.all_ready
+ready_waits g f has node below = All-get_or (IsWait g) f.ready node (At (no_tree g.faults))
+    (omega (arith, below, has.ready)) has.all_ready
 
 -- ---- what is sent
 
@@ -169,18 +172,19 @@ module _ (g : Graph) (active : TreeState Bool) (of_active : IsTree g active) (s 
       IsPick active yes_tree off_tree t →
       (b ≡ true → HasValueFrom s by_time x yes_tree) → HasValueFrom s [] y off_tree →
       HasValueFrom s (by_active ++ (if b then by_time else [])) (if b then x else y) t
-  picked_has_value {T} y_tree f t by_time x y of_y of_f made valued other =
-      agrees_pick s active y_tree f t b by_active (if b then by_time else []) (λ z. z ≡ (if b then x else y))
-      (few_of g.faults active.faults s of_active.faults few) (of_y.faults ∙ sym of_active.faults)
-      (of_f.faults ∙ sym of_active.faults)
-      (each_of g active.faults active of_active.faults of_active) (each_of g active.faults y_tree of_active.faults of_y)
-      (each_of g active.faults f of_active.faults of_f) made of_b (by b refl)
+  picked_has_value {T} yes_tree off_tree t by_time x y of_yes of_off made valued other =
+      agrees_pick s active yes_tree off_tree t b by_active (if b then by_time else []) (λ z. z ≡ (if b then x else y))
+      (few_of g.faults active.faults s of_active.faults few) (of_yes.faults ∙ sym of_active.faults)
+      (of_off.faults ∙ sym of_active.faults)
+      (each_of g active.faults active of_active.faults of_active)
+      (each_of g active.faults yes_tree of_active.faults of_yes)
+      (each_of g active.faults off_tree of_active.faults of_off) made of_b (by b refl)
     where
       -- by whether the chooser is true: the first tree's value, or the other's without further literals
       by : (d : Bool) → b ≡ d →
-          Agrees s (if d then by_time else []) (λ z. z ≡ (if d then x else y)) (if d then y_tree else f)
-      by true e = valued e
-      by false e = other
+          Agrees s (if d then by_time else []) (λ z. z ≡ (if d then x else y)) (if d then yes_tree else off_tree)
+      by true is_d = valued is_d
+      by false is_d = other
 
 -- a value if a test passes, and otherwise false, is the conjunction
 and_if : (b v : Bool) → (if b then v else false) ≡ (b && v)
@@ -205,27 +209,29 @@ pub tested_valued : (g : Graph) (c : ℕ) (wanted : Bool) (active value is never
     IsTestedTree g.faults c wanted active t
 tested_valued g c wanted active value is never t of_active number each same each_is known_is none each_never known_never made s few b by_active of_b =
     -- the condition's value in the scenario, which the tree of its number gives by the value's literal
-    let v : Bool = get_or s.values c false in
+    let c_value : Bool = get_or s.values c false in
     let valued : Agrees s (exactly (128 + c) (number_of s (128 + c)) ∷ []) (λ (d : Bool). number_of_value d ≡ number_of s (128 + c)) value =
     agrees_number s (128 + c) g.faults number_of_value value few (number_le_top g.faults s few (128 + c)) number in
-    let here : HasValueFrom s (value_known s c ∷ []) (same_bool wanted v) is =
+    let here : HasValueFrom s (value_known s c ∷ []) (same_bool wanted c_value) is =
     agrees_map s (λ x z. z ≡ same_bool wanted x) value is (value_known s c ∷ [])
     (λ (d : Bool). number_of_value d ≡ number_of s (128 + c))
-    (λ (d : Bool). d ≡ same_bool wanted v)
+    (λ (d : Bool). d ≡ same_bool wanted c_value)
     (few_of g.faults value.faults s number.faults few) each same
-    (λ x z e f. f ∙ ap (same_bool wanted) (one_value x v (e ∙ number_at s c))) valued in
+    (λ x z same_number is_made. is_made ∙ ap (same_bool wanted) (one_value x c_value (same_number ∙ number_at s c)))
+    valued in
     -- where the other tree is true the value is compared with the wanted one; elsewhere the tree is false
     subst (λ (d : Bool). HasValueFrom s (by_active ++ (if b then value_known s c ∷ [] else [])) d t)
-    (and_if b (same_bool wanted v))
-    (picked_has_value g active of_active s few b by_active of_b is never t (value_known s c ∷ []) (same_bool wanted v) false
+    (and_if b (same_bool wanted c_value))
+    (picked_has_value g active of_active s few b by_active of_b is never t (value_known s c ∷ [])
+    (same_bool wanted c_value) false
     (same_tree g value is number.faults same.faults each_is known_is)
     (constant_tree g false g.faults never refl each_never none known_never) made
-    (λ e. here) (agrees_constant s false g.faults never (λ y. y ≡ false) refl none))
+    (λ idle. here) (agrees_constant s false g.faults never (λ y. y ≡ false) refl none))
 
 -- If t picks `slots`, the first free slots from the end on, where an item goes, and `never`, no time, elsewhere, then t
 -- says when the item is sent.
--- `joined`, `each_slots`, `known_slots`: how `slots` is made of `end` and `free`; `none`, `each_never`, `known_never`:
--- `never` has no time; `made`: how t picks
+-- `joined`, `each_slots`, `known_slots`: how `slots` is made of `end` and `free`; `none`, `of_never`: `never`, a tree
+-- of the graph, has no time; `made`: how t picks
 -- `s`, `few`: a scenario with at most the graph's faults; `b`, `by_goes`, `of_b`: whether the item goes there, by these
 -- literals
 -- `x`, `y`, `by_end`, `by_free`, `valued`: the end, and from when on slots are free, by these literals
@@ -235,21 +241,21 @@ pub sent_valued : (g : Graph) (share : ShareState) (goes : TreeState Bool) (end 
     IsJoin (λ x y z. z ≡ slot_from share y x) end free slots → HasOnePathEach slots.faults slots.paths →
     DoPathsPass (is_variable g) slots.paths →
     IsConstant None g.faults never →
-    HasOnePathEach never.faults never.paths → DoPathsPass (is_variable g) never.paths → IsPick goes slots never t →
+    IsTree g never → IsPick goes slots never t →
     IsSentTree g.faults share goes end free t
-sent_valued g share goes end free slots never t of_goes of_end of_free joined each_slots known_slots none each_never known_never made s few b by_goes
+sent_valued g share goes end free slots never t of_goes of_end of_free joined each_slots known_slots none of_never made s few b by_goes
     by_end by_free x y of_b valued =
     picked_has_value g goes of_goes s few b by_goes of_b slots never t (by_end ++ by_free) (slot_from share y x) None
     (same_tree g end slots of_end.faults joined.faults each_slots known_slots)
-    (constant_tree g None g.faults never refl each_never none known_never) made
+    of_never made
     -- where the item goes: the first slot behind the end and what is free, by the literals of both
-    (λ e. let both = valued e in
+    (λ on. let both = valued on in
     agrees_join s (λ x y z. z ≡ slot_from share y x) end free slots by_end by_free (λ z. z ≡ x) (λ z. z ≡ y)
     (λ z. z ≡ slot_from share y x)
     (few_of g.faults end.faults s of_end.faults few)
     (of_free.faults ∙ sym of_end.faults) (each_of g end.faults end of_end.faults of_end)
     (each_of g end.faults free of_end.faults of_free) joined
-    (λ m n z d f i. i ∙ ap₂ (λ p q. slot_from share q p) d f) both.0 both.1)
+    (λ m n z is_end is_free is_made. is_made ∙ ap₂ (λ p q. slot_from share q p) is_end is_free) both.0 both.1)
     -- elsewhere: no time
     (agrees_constant s None g.faults never (λ z. z ≡ None) refl none)
 
@@ -264,13 +270,13 @@ sent_always g share goes end free t always of_end of_free joined s few b by_goes
     let both = valued on in
     subst (λ (d : Bool). HasValueFrom s (by_goes ++ (if d then by_end ++ by_free else [])) (if d then slot_from share y x else None) t) (sym on)
     (agrees_weaker s t (by_end ++ by_free) (by_goes ++ (by_end ++ by_free)) (λ z. z ≡ slot_from share y x) (λ z. z ≡ slot_from share y x)
-    (λ l j. Contains-append_right by_goes (by_end ++ by_free) l j)
-    (λ z e. e)
+    (λ literal listed. Contains-append_right by_goes (by_end ++ by_free) literal listed)
+    (λ z equal. equal)
     (agrees_join s (λ x y z. z ≡ slot_from share y x) end free t by_end by_free (λ z. z ≡ x) (λ z. z ≡ y) (λ z. z ≡ slot_from share y x)
     (few_of g.faults end.faults s of_end.faults few)
     (of_free.faults ∙ sym of_end.faults) (each_of g end.faults end of_end.faults of_end)
     (each_of g end.faults free of_end.faults of_free) joined
-    (λ m n z d f i. i ∙ ap₂ (λ p q. slot_from share q p) d f) both.0 both.1))
+    (λ m n z is_end is_free is_made. is_made ∙ ap₂ (λ p q. slot_from share q p) is_end is_free) both.0 both.1))
 
 -- if the item always goes, the tree t of its times, each `turn` later, says when the slots are free after it
 pub free_always : (g : Graph) (turn : ℕ) (goes : TreeState Bool) (sent : TreeState (Option ℕ)) (free t : TreeState ℕ) →
@@ -279,8 +285,8 @@ pub free_always : (g : Graph) (turn : ℕ) (goes : TreeState Bool) (sent : TreeS
 free_always g turn goes sent free t always of_sent later s few b by_goes by_time x w v of_b sends stays =
     let both = sends (always_true goes always s b by_goes of_b) in
     agrees_weaker s t by_time (by_goes ++ by_time) (λ z. z ≡ time_later turn x) (λ z. z ≡ v)
-    (λ l j. Contains-append_right by_goes by_time l j)
-    (λ z e. e ∙ sym both.1)
+    (λ literal listed. Contains-append_right by_goes by_time literal listed)
+    (λ z equal. equal ∙ sym both.1)
     (later_has_value g turn sent t of_sent later s few by_time x both.0)
 
 -- If t picks `after`, the item's times with `turn` added, where the item goes, and `free` elsewhere, then t says when
@@ -304,7 +310,7 @@ free_valued g turn goes sent free after t of_goes of_sent of_free later each kno
   where
     -- by whether the item goes: the slots are free a round after it, or as before
     picked : (d : Bool) → b ≡ d → Agrees s by_time (λ z. z ≡ v) (if d then after else free)
-    picked true e = let both = sends e in
+    picked true goes_there = let both = sends goes_there in
         subst (λ n. Agrees s by_time (λ z. z ≡ n) after) (sym both.1)
         (later_has_value g turn sent after of_sent later s few by_time x both.0)
-    picked false e = let both = stays e in subst (λ n. Agrees s by_time (λ z. z ≡ n) free) (sym both.1) both.0
+    picked false idle = let both = stays idle in subst (λ n. Agrees s by_time (λ z. z ≡ n) free) (sym both.1) both.0

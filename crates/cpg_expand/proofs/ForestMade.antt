@@ -32,8 +32,8 @@ pub nodes_pushed : (g : Graph) (xs pushed : List Ready) (t : TreeState ℕ) (n :
     IsConstant 0 g.faults t →
     pushed ≡ xs ++ At t ∷ [] →
     (length pushed ≡ n + 1) × All (IsWait g) pushed × All (IsReadyFirst g.faults) pushed
-nodes_pushed g xs pushed t n has is zero e = (
-  (let long = length-append xs (At t ∷ []) in let same = ap length e in let below = has.0 in omega arith),
-  subst (All (IsWait g)) (sym e) (All-push (IsWait g) xs (At t) has.1 is),
-  subst (All (IsReadyFirst g.faults)) (sym e) (All-push (IsReadyFirst g.faults) xs (At t) has.2 zero),
+nodes_pushed g xs pushed t n has is zero is_pushed = (
+  (let long = length-append xs (At t ∷ []) in let same = ap length is_pushed in let below = has.0 in omega arith),
+  subst (All (IsWait g)) (sym is_pushed) (All-push (IsWait g) xs (At t) has.1 is),
+  subst (All (IsReadyFirst g.faults)) (sym is_pushed) (All-push (IsReadyFirst g.faults) xs (At t) has.2 zero),
 )

@@ -12,8 +12,8 @@ use Rattle.cpg_expand.specs.Waiting.{free_of}
 -- each node has a tree of when its slots are free
 pub free_tree : (g : Graph) (f : ForestState) → HasTrees g f → (node : ℕ) → node < length g.nodes →
     IsTree g (free_of g f node)
-free_tree g f has node l =
-    All-get_or (IsTree g) f.free node (no_tree g.faults) (omega (arith, l, has.free)) has.all_free
+free_tree g f has node below =
+    All-get_or (IsTree g) f.free node (no_tree g.faults) (omega (arith, below, has.free)) has.all_free
 
 -- if a tree of times and one of free slots are put, there is still a tree for each
 pub has_put : (g : Graph) (f new : ForestState) (x node : ℕ) (times : TreeState (Option ℕ)) (free : TreeState ℕ) →
@@ -43,7 +43,8 @@ pub free_read : (g : Graph) (f : ForestState) → HasTrees g f → (i : ForestSt
     (v : TreeState ℕ) (at node : ℕ) → v ≡ get_or i.free at v → at ≡ node →
     node < length g.nodes →
     v ≡ free_of g f node
-free_read g f has i same v at node is e l =
+free_read g f has i same v at node is is_node below =
     let long = ap (λ (h : ForestState). length h.free) same in
-    get_or_read_under i.free at (length i.free) v (no_tree g.faults) is (omega (arith, e, l, has.free, long)) refl
-    ∙ ap (λ (h : ForestState). free_of g h at) same ∙ ap (free_of g f) e
+    get_or_read_under i.free at (length i.free) v (no_tree g.faults) is (omega (arith, is_node, below, has.free, long))
+    refl
+    ∙ ap (λ (h : ForestState). free_of g h at) same ∙ ap (free_of g f) is_node

@@ -16,7 +16,7 @@ use Rattle.cpg_expand.specs.Freezing.{set_if}
 
 -- if two times that are there are equal, so are their numbers
 pub some_same : (a b : ℕ) → Some a ≡ Some b → a ≡ b
-some_same a b e = ap (λ o. unwrap_or o 0) e
+some_same a b equal = ap (λ o. unwrap_or o 0) equal
 
 -- setting the latest time of an item keeps the number of frozen times
 pub set_count : (old : List (Option ℕ)) (x : ℕ) (latest : Option ℕ) → length (set_if old x latest) ≡ length old
@@ -32,8 +32,8 @@ set_other old x y (Some time) other = get_or-set_other old x y (Some time) None 
 -- if x has no frozen time, it has the latest time once that is set, or none if there is no latest time
 pub set_here : (old : List (Option ℕ)) (x : ℕ) (latest : Option ℕ) → x < length old → get_or old x None ≡ None →
     get_or (set_if old x latest) x None ≡ latest
-set_here old x None l unset = unset
-set_here old x (Some time) l unset = get_or-set_same old x (Some time) None l
+set_here old x None inside unset = unset
+set_here old x (Some time) inside unset = get_or-set_same old x (Some time) None inside
 
 -- given: frozen times, an item, and the latest time found for it
 module _ (g : Graph) (order : List ℕ) (old : List (Option ℕ)) (x : ℕ) (latest : Option ℕ) where
@@ -65,31 +65,33 @@ module _ (g : Graph) (order : List ℕ) (topological : IsTopological g order) (o
     (latest : Option ℕ) (above : IsAbove g order old x latest) (reached : IsReachedBy g order old x latest) where
   -- the latest time is one that x would have in some run
   reached_there : (time : ℕ) → latest ≡ Some time → WouldHave g order old x time
-  reached_there time e =
-      let r = reached time e in
-      let t = a_run g order old r.0 topological in
-      let up = above r.0 r.1 t.0 t.1 r.2 in
+  reached_there time is_latest =
+      let reached_in = reached time is_latest in
+      let its_run = a_run g order old reached_in.0 topological in
+      let up = above reached_in.0 reached_in.1 its_run.0 its_run.1 reached_in.2 in
       record {
-        scenario = r.0;
-        lawful = r.1;
-        times = t.0;
-        run = t.1;
-        active = r.2;
-        has = both_ways (unfrozen_time g order r.0 t.0 x) up.0 time up.2
-            (some_same up.0 time (sym up.1 ∙ e)) (r.3 t.0 t.1);
+        scenario = reached_in.0;
+        lawful = reached_in.1;
+        times = its_run.0;
+        run = its_run.1;
+        active = reached_in.2;
+        has = both_ways (unfrozen_time g order reached_in.0 its_run.0 x) up.0 time up.2
+            (some_same up.0 time (sym up.1 ∙ is_latest)) (reached_in.3 its_run.0 its_run.1);
       }
     where
       -- a time between two equal ones is equal to them
       both_ways : (u m time : ℕ) → u ≤ m → m ≡ time → time ≤ u → u ≡ time
-      both_ways u m time h e k = omega (arith, h, e, k)
+      both_ways u m time in_most is_time in_time = omega (arith, in_most, is_time, in_time)
 
   -- so it is the greatest time that x would have, or none if x is active in no scenario
   it_is : (o : Option ℕ) → o ≡ latest → IsUnfrozenTime g order old x o
   it_is o is = record {
-    reached = λ time e. reached_there time (sym is ∙ e);
-    greatest = λ time other e w. let up = above w.scenario w.lawful w.times w.run w.active in
-        let same = some_same up.0 time (sym up.1 ∙ sym is ∙ e) in omega (arith, up.2, w.has, same);
-    none = λ e time w. let up = above w.scenario w.lawful w.times w.run w.active in none-some up.0 (sym e ∙ is ∙ up.1);
+    reached = λ time is_latest. reached_there time (sym is ∙ is_latest);
+    greatest = λ time other is_latest would. let up =
+        above would.scenario would.lawful would.times would.run would.active in
+        let same = some_same up.0 time (sym up.1 ∙ sym is ∙ is_latest) in omega (arith, up.2, would.has, same);
+    none = λ is_latest time would. let up = above would.scenario would.lawful would.times would.run would.active in
+        none-some up.0 (sym is_latest ∙ is ∙ up.1);
   }
 
   -- once the latest time is set, it is what the item would have at most, and nothing else has changed

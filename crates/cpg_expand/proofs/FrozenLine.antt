@@ -42,12 +42,12 @@ module _ (g : Graph) (order : List ℕ) (rows : List (List Column)) (s : Scenari
   frozen_line frozen chooser tree time of_chooser actives made =
       agrees_weaker s tree (values_known s (way guard s.values)) (carried_at_start g order rows s p)
       (λ z. z ≡ time_if time (active g s.values p))
-      (λ z. z ≡ (if active g s.values p then Some time else None)) within (λ z e. e)
+      (λ z. z ≡ (if active g s.values p then Some time else None)) within (λ z equal. equal)
       (agrees_map s (λ b z. z ≡ time_if time b) chooser tree (values_known s (way guard s.values))
       (λ b. b ≡ active g s.values p) (λ z. z ≡ time_if time (active g s.values p))
       (few_of g.faults chooser.faults s of_chooser.faults few)
       (each_of g chooser.faults chooser of_chooser.faults of_chooser) made
-      (λ b z e f. f ∙ ap (time_if time) e) chosen)
+      (λ b z as_active is_made. is_made ∙ ap (time_if time) as_active) chosen)
     where
       -- the chooser says whether p is active, by the conditions on the guard's way
       chosen : HasValueFrom s (values_known s (way guard s.values)) (active g s.values p) chooser
@@ -56,17 +56,17 @@ module _ (g : Graph) (order : List ℕ) (rows : List (List Column)) (s : Scenari
 
       -- the values of these decide p
       in_decided : (l : Literal) → Contains (values_known s (way guard s.values)) l → Contains (decided g s p) l
-      in_decided l j =
-          let r = Contains-map_parts (value_known s) (way guard s.values) l j in
-          subst (Contains (decided g s p)) r.2
-          (Contains-map (value_known s) (deciding g s.values p) r.0 (on_way r.0 r.1))
+      in_decided l listed =
+          let condition = Contains-map_parts (value_known s) (way guard s.values) l listed in
+          subst (Contains (decided g s p)) condition.2
+          (Contains-map (value_known s) (deciding g s.values p) condition.0 (on_way condition.0 condition.1))
 
       -- a frozen start carries what decides it
       within : (l : Literal) → Contains (values_known s (way guard s.values)) l →
           Contains (carried_at_start g order rows s p) l
-      within l j = subst (λ (f : Bool). Contains (if f then decided g s p else flat_map (passed g rows s)
+      within l listed = subst (λ (f : Bool). Contains (if f then decided g s p else flat_map (passed g rows s)
           (before_on_node g order p) ++ decided g s p ++ heard g rows s p ++ received g rows s p) l)
-          (sym frozen) (in_decided l j)
+          (sym frozen) (in_decided l listed)
 
 -- if p has the frozen time `time`, and its unfrozen time in the run isn't later, its time in the run is `time` if it is
 -- active, and none if it isn't
@@ -75,11 +75,11 @@ pub frozen_value : (g : Graph) (order : List ℕ) (frozen : List (Option ℕ)) (
     get_or frozen p None ≡ Some time →
     (active g s.values p ≡ true → unfrozen_time g order s t p ≤ time) →
     (if active g s.values p then Some time else None) ≡ get_or t.times p None
-frozen_value g order frozen s t run p l time is most =
+frozen_value g order frozen s t run p below time is most =
     go (active g s.values p) refl ∙ sym (ap (λ ts. get_or ts p None) run.times
-    ∙ get_or-map-below (time_by g order frozen s t) (item_count g) p None (omega (arith, l))
+    ∙ get_or-map-below (time_by g order frozen s t) (item_count g) p None (omega (arith, below))
     ∙ ap (λ (b : Bool). if b then Some (greatest (unfrozen_time g order s t p ∷ option_to_list (get_or frozen p None)))
-    else None) (ap (item_active g s.values) (item_at-start g p l)))
+    else None) (ap (item_active g s.values) (item_at-start g p below)))
   where
     -- by whether p is active: only then has it a time, and its frozen time is the greatest of what it waits for
     go : (b : Bool) → active g s.values p ≡ b →

@@ -41,11 +41,11 @@ module _ (g : Graph) (order : List ℕ) (rows : List (List Column)) (s : Scenari
   frozen_send_line frozen tree time of_tree made =
       agrees_weaker s tree says (carried_at_send g order rows s x)
       (λ z. z ≡ time_if time (item_active g s.values (item_at g x)))
-      (λ z. z ≡ (if item_active g s.values (item_at g x) then Some time else None)) within (λ z e. e)
+      (λ z. z ≡ (if item_active g s.values (item_at g x) then Some time else None)) within (λ z equal. equal)
       (agrees_map s (λ b z. z ≡ time_if time b) goes tree says (λ b. b ≡ item_active g s.values (item_at g x))
       (λ z. z ≡ time_if time (item_active g s.values (item_at g x)))
       (few_of g.faults goes.faults s of_tree.faults few) (each_of g goes.faults goes of_tree.faults of_tree) made
-      (λ b z e f. f ∙ ap (time_if time) e) of_goes)
+      (λ b z as_active is_made. is_made ∙ ap (time_if time) as_active) of_goes)
     where
       -- what an unfrozen send would carry beside the value by which it is sent
       all : List Literal
@@ -54,15 +54,17 @@ module _ (g : Graph) (order : List ℕ) (rows : List (List Column)) (s : Scenari
       -- a frozen send carries what decides its producer, and the value by which it is sent
       frozen_says : (l : Literal) → Contains (decided g s (producer g x) ++ sent_by_value g s x) l →
           Contains (carried_at_send g order rows s x) l
-      frozen_says l j =
+      frozen_says l listed =
           subst (λ (f : Bool). Contains ((if f then decided g s (producer g x) else all) ++ sent_by_value g s x) l)
-          (sym frozen) j
+          (sym frozen) listed
 
       -- so is all that the tree says
       within : (l : Literal) → Contains says l → Contains (carried_at_send g order rows s x) l
-      within l j = elim (at_most l j) [
-        | inl i ↦ frozen_says l (Contains-append_left (decided g s (producer g x)) (sent_by_value g s x) l i)
-        | inr i ↦ frozen_says l (Contains-append_right (decided g s (producer g x)) (sent_by_value g s x) l i.1)
+      within l listed = elim (at_most l listed) [
+        | inl decided_there ↦ frozen_says l
+            (Contains-append_left (decided g s (producer g x)) (sent_by_value g s x) l decided_there)
+        | inr by_value ↦ frozen_says l
+            (Contains-append_right (decided g s (producer g x)) (sent_by_value g s x) l by_value.1)
       ]
 
 -- if item x has the frozen time `time`, and its unfrozen time in the run isn't later, its time in the run is `time` if
@@ -72,8 +74,8 @@ pub frozen_send_value : (g : Graph) (order : List ℕ) (frozen : List (Option �
     get_or frozen x None ≡ Some time →
     (item_active g s.values (item_at g x) ≡ true → unfrozen_time g order s t x ≤ time) →
     (if item_active g s.values (item_at g x) then Some time else None) ≡ get_or t.times x None
-frozen_send_value g order frozen s t run x l time is most =
-    go (item_active g s.values (item_at g x)) refl ∙ sym (time_is g order frozen s t run x l)
+frozen_send_value g order frozen s t run x below time is most =
+    go (item_active g s.values (item_at g x)) refl ∙ sym (time_is g order frozen s t run x below)
   where
     -- by whether the item is active: only then has it a time, and its frozen time is the greatest of what it waits for
     go : (b : Bool) → item_active g s.values (item_at g x) ≡ b → (if b then Some time else None) ≡

@@ -43,28 +43,28 @@ pub same_valued : (g : Graph) (chooser t : TreeState Bool) → IsTree g chooser 
     HasValueFrom s (by_chooser ++ more) b t
 same_valued g chooser t of_chooser made s few b by_chooser more valued =
     agrees_weaker s t by_chooser (by_chooser ++ more) (λ z. z ≡ b) (λ z. z ≡ b)
-    (λ l j. Contains-append_left by_chooser more l j) (λ z e. e)
+    (λ literal listed. Contains-append_left by_chooser more literal listed) (λ z equal. equal)
     (agrees_map s (λ x z. z ≡ same_bool true x) chooser t by_chooser (λ x. x ≡ b) (λ z. z ≡ b)
     (few_of g.faults chooser.faults s of_chooser.faults few)
     (each_of g chooser.faults chooser of_chooser.faults of_chooser) made
-    (λ x z e f. f ∙ ap (same_bool true) e ∙ same_true b) valued)
+    (λ x z is_b is_made. is_made ∙ ap (same_bool true) is_b ∙ same_true b) valued)
 
 -- ---- what an edge asks for
 
 -- an edge asks nothing if it has no `when`, or if there is no condition
 no_question : (o : Option Bool) (c : Option ℕ) → asked_by o c ≡ None →
     (o ≡ None) ⊎ (((w : Bool) × (o ≡ Some w)) × (c ≡ None))
-no_question None c e = inl refl
-no_question (Some w) None e = inr ((w, refl), refl)
-no_question (Some w) (Some d) e = absurd (none-some (d, w) (sym e))
+no_question None c is_asked = inl refl
+no_question (Some w) None is_asked = inr ((w, refl), refl)
+no_question (Some w) (Some d) is_asked = absurd (none-some (d, w) (sym is_asked))
 
 -- an edge that asks for a value has it as its `when`, and asks for its source's condition
 a_question : (o : Option Bool) (c : Option ℕ) (d : ℕ) (w : Bool) → asked_by o c ≡ Some (d, w) →
     (o ≡ Some w) × (c ≡ Some d)
-a_question None c d w e = absurd (none-some (d, w) e)
-a_question (Some v) None d w e = absurd (none-some (d, w) e)
-a_question (Some v) (Some f) d w e =
-    (ap (λ (q : Option (ℕ × Bool)). some_value q) e, ap (λ (q : Option (ℕ × Bool)). some_condition q) e)
+a_question None c d w is_asked = absurd (none-some (d, w) is_asked)
+a_question (Some v) None d w is_asked = absurd (none-some (d, w) is_asked)
+a_question (Some v) (Some f) d w is_asked =
+    (ap (λ (q : Option (ℕ × Bool)). some_value q) is_asked, ap (λ (q : Option (ℕ × Bool)). some_condition q) is_asked)
   where
     -- the value that is asked for
     some_value : Option (ℕ × Bool) → Option Bool
@@ -80,11 +80,12 @@ a_question (Some v) (Some f) d w e =
 module _ (g : Graph) (e : ℕ) where
   -- an edge that asks for nothing has no `when`: the source of one with a `when` has a condition
   asks_nothing : e < edge_count g → source g e < process_count g → asked g e ≡ None → (edge_at g e).when ≡ None
-  asks_nothing l h none = elim (no_question (edge_at g e).when (condition_of g (source g e)) none) [
+  asks_nothing below source_below none = elim (no_question (edge_at g e).when (condition_of g (source g e)) none) [
     | inl simple ↦ simple
-    | inr r ↦
-        let c = condition_of_edge g e r.0.0 l h r.0.1 in
-        absurd (none-some c.0 (sym r.1 ∙ sym (ap (condition_of g) c.2) ∙ condition_of_process_of g c.0 c.1))
+    | inr with_when ↦
+        let its_condition = condition_of_edge g e with_when.0.0 below source_below with_when.0.1 in
+        absurd (none-some its_condition.0 (sym with_when.1 ∙ sym (ap (condition_of g) its_condition.2)
+        ∙ condition_of_process_of g its_condition.0 its_condition.1))
   ]
 
   -- if an edge asks for the value of a condition, it is that of its source
@@ -98,14 +99,15 @@ module _ (g : Graph) (e : ℕ) where
         IsMap (λ x z. z ≡ same_bool true x) chooser t →
         IsLiveTree g e chooser t
     -- the tree is the chooser's copy, and an edge that asks for nothing is live just if its source is active
-    live_simple l h none of_chooser made s few by_chooser valued =
-        let simple = asks_nothing l h none in
-        let b : Bool = active g s.values (source g e) in
-        let v : Bool = get_or s.values (unwrap_or (condition_of g (source g e)) 0) false in
-        subst (λ (z : Bool). HasValueFrom s (by_chooser ++ (if b then map (number_known s) (source_value g e) else [])) z t)
-        (sym (ap (λ o. b && takes o v) simple ∙ and_true b))
-        (same_valued g chooser t of_chooser made s few b by_chooser
-        (if b then map (number_known s) (source_value g e) else []) valued)
+    live_simple below source_below none of_chooser made s few by_chooser valued =
+        let simple = asks_nothing below source_below none in
+        let source_acts : Bool = active g s.values (source g e) in
+        let c_value : Bool = get_or s.values (unwrap_or (condition_of g (source g e)) 0) false in
+        subst (λ (z : Bool). HasValueFrom s
+        (by_chooser ++ (if source_acts then map (number_known s) (source_value g e) else [])) z t)
+        (sym (ap (λ o. source_acts && takes o c_value) simple ∙ and_true source_acts))
+        (same_valued g chooser t of_chooser made s few source_acts by_chooser
+        (if source_acts then map (number_known s) (source_value g e) else []) valued)
 
     -- an edge that asks for a value is live where its source is active and the condition has that value
     pub live_tested : (c : ℕ) (w : Bool) → asked g e ≡ Some (c, w) → IsTestedTree g.faults c w chooser t →
@@ -113,15 +115,17 @@ module _ (g : Graph) (e : ℕ) where
     -- the edge's literals and its value, for an edge with that question, are those of the test
     live_tested c w is tested s few by_chooser valued =
         let both = a_question (edge_at g e).when (condition_of g (source g e)) c w is in
-        let b : Bool = active g s.values (source g e) in
-        let lits = ap₂ (λ (o : Option Bool) (d : Option ℕ). by_chooser ++ (if b then map (number_known s)
+        let source_acts : Bool = active g s.values (source g e) in
+        let lits = ap₂ (λ (o : Option Bool) (d : Option ℕ). by_chooser ++ (if source_acts then map (number_known s)
         (if is_some o then map value_variable (option_to_list d) else []) else [])) (sym both.0)
         (sym both.1) in
-        let value = ap₂ (λ (o : Option Bool) (d : Option ℕ). b && takes o (get_or s.values (unwrap_or d 0) false))
+        let value = ap₂ (λ (o : Option Bool) (d : Option ℕ). source_acts && takes o
+        (get_or s.values (unwrap_or d 0) false))
         (sym both.0) (sym both.1) in
         subst (λ (ls : List Literal). HasValueFrom s ls (live g s.values e) t) lits
-        (subst (λ (z : Bool). HasValueFrom s (by_chooser ++ (if b then value_known s c ∷ [] else [])) z t) value
-        (tested s few b by_chooser valued))
+        (subst (λ (z : Bool). HasValueFrom s (by_chooser ++ (if source_acts then value_known s c ∷ [] else [])) z t)
+        value
+        (tested s few source_acts by_chooser valued))
 
 -- given: an item, the tree of where its producer is active, and the one that is made of it
 module _ (g : Graph) (x : ℕ) (chooser t : TreeState Bool) where

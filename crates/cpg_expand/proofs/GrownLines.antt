@@ -43,12 +43,12 @@ pub valued_from_lines : (g : Graph) (order : List ℕ) (rows : List (List Column
     Lines g order rows s t i f → HasTreeValues g order rows s t i f
 -- an item's time is one that its row has a column for, since the rows hold what the trees list
 valued_from_lines g order rows i f has hold frozen s t run lines = record {
-  ends = λ q l sooner on. lines.ends q l sooner;
-  sends = λ x l sent sooner on. valued_by_tree g.faults rows s x (λ (y : Option ℕ). y ≡ get_or t.times x None)
-      (times_of g f x) (times_tree g f has x l).faults
+  ends = λ q below sooner on. lines.ends q below sooner;
+  sends = λ x below sent sooner on. valued_by_tree g.faults rows s x (λ (y : Option ℕ). y ≡ get_or t.times x None)
+      (times_of g f x) (times_tree g f has x below).faults
       (λ p is_on.
-      let here = (lines.times x l sooner).value p is_on in
-      (here, hold.sends x l sent sooner p _ is_on.stands (here ∙ has_time g order frozen s t run x l on)));
+      let here = (lines.times x below sooner).value p is_on in
+      (here, hold.sends x below sent sooner p _ is_on.stands (here ∙ has_time g order frozen s t run x below on)));
 }
 
 -- ---- other frozen times
@@ -61,20 +61,22 @@ module _ (g : Graph) (order : List ℕ) (topological : IsTopological g order) (r
   lines_same : (t u : Times) → AgreeBefore g order t u (i * phases g) → Lines g order rows s t i f →
       Lines g order rows s u i f
   -- line by line: what stands before the place has the same times in both runs
-  lines_same t u a lines = record {
-    times = λ x h l. subst (λ (o : Option ℕ). HasValueFrom s (carried g order rows s x) o (times_of g f x))
-        (a.items x h (item_before g order topological s t u i a x h l)) (lines.times x h l);
-    ends = λ q h l. subst (λ (o : Option ℕ). HasValueFrom s (carried_at_end g order rows s q) o (ends_of g f q))
-        (a.ends q h (end_before g order topological s t u i a q l)) (lines.ends q h l);
-    ready = λ node l w. let r = lines.ready node l w in record {
-      time = r.time;
-      is = ready_same g order topological s t u i a node r.time r.is;
-      has_value = r.has_value;
+  lines_same t u agreed lines = record {
+    times = λ x below sooner. subst (λ (o : Option ℕ). HasValueFrom s (carried g order rows s x) o (times_of g f x))
+        (agreed.items x below (item_before g order topological s t u i agreed x below sooner))
+        (lines.times x below sooner);
+    ends = λ q below sooner. subst
+        (λ (o : Option ℕ). HasValueFrom s (carried_at_end g order rows s q) o (ends_of g f q))
+        (agreed.ends q below (end_before g order topological s t u i agreed q sooner)) (lines.ends q below sooner);
+    ready = λ node below waited. let line = lines.ready node below waited in record {
+      time = line.time;
+      is = ready_same g order topological s t u i agreed node line.time line.is;
+      has_value = line.has_value;
     };
-    free = λ node l q. let r = lines.free node l q in record {
-      time = r.time;
-      is = free_same g order topological s t u i a node r.time r.is;
-      has_value = r.has_value;
+    free = λ node below waited. let line = lines.free node below waited in record {
+      time = line.time;
+      is = free_same g order topological s t u i agreed node line.time line.is;
+      has_value = line.has_value;
     };
   }
 
@@ -84,10 +86,11 @@ module _ (g : Graph) (order : List ℕ) (topological : IsTopological g order) (r
       ((t : Times) → IsRun g order frozen s t → Lines g order rows s t i f) → (u : Times) → IsRun g order others s u →
       Lines g order rows s u i f
   lines_over frozen others same lines u run =
-      let r = a_run g order frozen s topological in
-      lines_same r.0 u (agree_before g order topological s r.0 u frozen others r.1 run (i * phases g)
-      (λ x h l. same x h (earlier_place (place order (producer g x)) i (phase (item_at g x)) (phases g) l)))
-      (lines r.0 r.1)
+      let old_run = a_run g order frozen s topological in
+      lines_same old_run.0 u (agree_before g order topological s old_run.0 u frozen others old_run.1 run (i * phases g)
+      (λ x below sooner. same x below
+      (earlier_place (place order (producer g x)) i (phase (item_at g x)) (phases g) sooner)))
+      (lines old_run.0 old_run.1)
 
 -- ---- the first trees
 
@@ -99,7 +102,7 @@ module _ (g : Graph) (order : List ℕ) (f : ForestState) (bare : IsBareForest g
   -- at the first place each node is ready from 0 on, and nothing is said of it
   ready_first : (node : ℕ) → node < length g.nodes → IsReadyLine g order rows s t 0 node (ready_of g f node)
   -- no process stands before the first place, so 0 is the least time at which all of them have ended
-  ready_first node l = record {
+  ready_first node below = record {
     time = 0;
     is = record {
       ends = λ q k before. absurd (omega (arith, before));
@@ -107,10 +110,11 @@ module _ (g : Graph) (order : List ℕ) (f : ForestState) (bare : IsBareForest g
       least = λ b x y. omega arith;
     };
     has_value =
-        agrees_weaker s (ready_of g f node) [] _ (λ z. z ≡ 0) (λ z. z ≡ 0) (λ l j. absurd (Contains-nil l j)) (λ z e. e)
+        agrees_weaker s (ready_of g f node) [] _ (λ z. z ≡ 0) (λ z. z ≡ 0)
+        (λ literal in_none. absurd (Contains-nil literal in_none)) (λ z equal. equal)
         (agrees_constant s 0 g.faults (ready_of g f node) (λ z. z ≡ 0) refl
         (constant_0 (ready_at g f node) (All-get_or (IsReadyFirst g.faults) f.ready node (At (no_tree g.faults))
-        (omega (arith, l, has.ready)) bare.ready)));
+        (omega (arith, below, has.ready)) bare.ready)));
   }
     where
       -- what says at the beginning when a node is ready has the time 0 in each scenario
@@ -120,13 +124,14 @@ module _ (g : Graph) (order : List ℕ) (f : ForestState) (bare : IsBareForest g
 
   -- the slots of each node are free from 0 on, and nothing is said of them
   free_first : (node : ℕ) → node < length g.nodes → IsFreeLine g order rows s t 0 node (free_of g f node)
-  free_first node l = record {
+  free_first node below = record {
     time = 0;
-    is = record { above = λ y h. absurd (let sooner = h.1 in omega (arith, sooner)); least = λ b h. omega arith };
+    is = record { above = λ y has. absurd (let sooner = has.1 in omega (arith, sooner)); least = λ b has. omega arith };
     has_value =
-        agrees_weaker s (free_of g f node) [] _ (λ z. z ≡ 0) (λ z. z ≡ 0) (λ l j. absurd (Contains-nil l j)) (λ z e. e)
+        agrees_weaker s (free_of g f node) [] _ (λ z. z ≡ 0) (λ z. z ≡ 0)
+        (λ literal in_none. absurd (Contains-nil literal in_none)) (λ z equal. equal)
         (agrees_constant s 0 g.faults (free_of g f node) (λ z. z ≡ 0) refl
-        (All-get_or (IsConstant 0 g.faults) f.free node (no_tree g.faults) (omega (arith, l, has.free)) bare.free));
+        (All-get_or (IsConstant 0 g.faults) f.free node (no_tree g.faults) (omega (arith, below, has.free)) bare.free));
   }
 
   -- bare trees give the lines of the run up to the place 0, before any process
@@ -134,8 +139,8 @@ module _ (g : Graph) (order : List ℕ) (f : ForestState) (bare : IsBareForest g
   lines_first = record {
     times = λ x l before. absurd (omega (arith, before));
     ends = λ q l before. absurd (omega (arith, before));
-    ready = λ node l w. ready_first node l;
-    free = λ node l q. free_first node l;
+    ready = λ node below w. ready_first node below;
+    free = λ node below q. free_first node below;
   }
 
 -- before any process is gone over, no frozen time is set
@@ -144,7 +149,7 @@ settled_first g order = record {
   count = length-replicate {A = Option ℕ} (item_count g) None;
   each = λ x l is before. absurd (omega (arith, before));
   others = λ x no. none_frozen g x;
-  low = record { low = λ x time l e. absurd (none-some time (sym (none_frozen g x) ∙ e)) };
+  low = record { low = λ x time l has_time. absurd (none-some time (sym (none_frozen g x) ∙ has_time)) };
 }
 
 -- bare trees are grown up to the place 0
@@ -152,8 +157,8 @@ pub grown_first : (g : Graph) (order : List ℕ) (f : ForestState) → HasTrees 
     IsGrown g order 0 (nothing_frozen g) f
 grown_first g order f has bare = record {
   trees = has;
-  unsent = λ x big l is.
-      All-get_or (IsConstant None g.faults) f.times x (no_tree g.faults) (omega (arith, l, has.times)) bare.times;
+  unsent = λ x big below is.
+      All-get_or (IsConstant None g.faults) f.times x (no_tree g.faults) (omega (arith, below, has.times)) bare.times;
   settled = settled_first g order;
   lines = λ rows hold s law t run. lines_first g order f bare has rows s t;
 }

@@ -45,26 +45,27 @@ use Rattle.cpg_expand.proofs.AgreeingTrees.{agrees_weaker, agrees_constant, agre
 pub constant_tree : {T : Type 0} (g : Graph) (x : T) (k : ℕ) (t : TreeState T) → k ≡ g.faults →
     HasOnePathEach t.faults t.paths → IsConstant x k t →
     DoPathsPass (is_variable g) t.paths → IsTree g t
-constant_tree g x k t e each is known =
-    let same = ap (λ (u : TreeState _). u.faults) is ∙ e in
+constant_tree g x k t same_faults each is known =
+    let same = ap (λ (u : TreeState _). u.faults) is ∙ same_faults in
     record { faults = same; each = subst (λ n. HasOnePathEach n t.paths) same each; known = known }
 
 -- a tree of the graph has one path for each scenario of at most the graph's faults
 pub each_of : {T : Type 0} (g : Graph) (m : ℕ) (t : TreeState T) → m ≡ g.faults → IsTree g t → HasOnePathEach m t.paths
-each_of g m t e is = subst (λ n. HasOnePathEach n t.paths) (sym e) is.each
+each_of g m t same_faults is = subst (λ n. HasOnePathEach n t.paths) (sym same_faults) is.each
 
 -- ---- variables of a graph
 
 -- the fault count of process p is a variable of the graph
 pub count_passes : (g : Graph) (p : ℕ) → p < process_count g → is_variable g p ≡ true
-count_passes g p l = ap (λ b. b || (nat_le 128 p && nat_lt p (value_variable (condition_count g)))) (lt-ltb p (process_count g) l)
+count_passes g p below = ap (λ b. b || (nat_le 128 p && nat_lt p (value_variable (condition_count g))))
+    (lt-ltb p (process_count g) below)
 
 -- the value of condition c is a variable of the graph
 pub value_passes : (g : Graph) (c : ℕ) → c < condition_count g → is_variable g (128 + c) ≡ true
-value_passes g c l = or_right (nat_lt (128 + c) (process_count g))
+value_passes g c below = or_right (nat_lt (128 + c) (process_count g))
     (nat_le 128 (128 + c) && nat_lt (128 + c) (value_variable (condition_count g)))
     (and_from (nat_le 128 (128 + c)) (nat_lt (128 + c) (value_variable (condition_count g))) (le-leb 128 (128 + c) (omega arith))
-    (lt-ltb (128 + c) (value_variable (condition_count g)) (omega (arith, l))))
+    (lt-ltb (128 + c) (value_variable (condition_count g)) (omega (arith, below))))
 
 -- ---- times that are later by a delay
 
@@ -76,7 +77,7 @@ later_has_value g delay tree t is made s few ls x has_value =
     agrees_map s (λ y z. z ≡ time_later delay y) tree t ls (λ y. y ≡ x) (λ y. y ≡ time_later delay x)
     (few_of g.faults tree.faults s is.faults few)
     (each_of g tree.faults tree is.faults is) made
-    (λ y z e f. f ∙ ap (time_later delay) e) has_value
+    (λ y z is_x is_made. is_made ∙ ap (time_later delay) is_x) has_value
 
 -- ---- times that are later tell when a node is ready
 
@@ -84,27 +85,33 @@ later_has_value g delay tree t is made s few ls x has_value =
 module _ (delay : ℕ) (s : Scenario) (t : TreeState (Option ℕ)) (ls : List Literal) where
   -- a path of the tree is one of the later tree, with its time moved
   on_times : (z : Path (Option ℕ)) → IsOnPath t.paths s z → IsOnPath (later_by delay t).paths s (later_path delay z)
-  on_times z on = record { stands = Contains-map (later_path delay) t.paths z on.stands; matched = on.matched }
+  on_times path on = record { stands = Contains-map (later_path delay) t.paths path on.stands; matched = on.matched }
 
   -- each path of the later tree comes from one of the tree
   of_times : (z : Path ℕ) → IsOnPath (later_by delay t).paths s z →
       (x : Path (Option ℕ)) × IsOnPath t.paths s x × (later_path delay x ≡ z)
-  of_times z on =
-      let r = Contains-map_parts (later_path delay) t.paths z on.stands in
-      (r.0, record { stands = r.1; matched = subst (λ (w : Path ℕ). IsTrue (is_on s w)) (sym r.2) on.matched }, r.2)
+  of_times path on =
+      let source = Contains-map_parts (later_path delay) t.paths path on.stands in (
+        source.0,
+        record { stands = source.1; matched = subst (λ (w : Path ℕ). IsTrue (is_on s w)) (sym source.2) on.matched },
+        source.2,
+      )
 
   -- if the later tree has a value, the tree itself has one that the delay brings there
   pub from_times : (x : ℕ) → HasValueFrom s ls x (later_by delay t) → Agrees s ls (λ y. time_later delay y ≡ x) t
   from_times x has_value = record {
-    value = λ z on. has_value.value (later_path delay z) (on_times z on);
-    says = λ z on. has_value.says (later_path delay z) (on_times z on);
+    value = λ path on. has_value.value (later_path delay path) (on_times path on);
+    says = λ path on. has_value.says (later_path delay path) (on_times path on);
   }
 
   -- if the tree has a value, the later tree has it, later by the delay
   pub to_times : (y : Option ℕ) → HasValueFrom s ls y t → HasValueFrom s ls (time_later delay y) (later_by delay t)
   to_times y has_value = record {
-    value = λ z on. let r = of_times z on in subst (λ (w : Path ℕ). w.1 ≡ time_later delay y) r.2 (ap (time_later delay) (has_value.value r.0 r.1));
-    says = λ z on. let r = of_times z on in subst (λ (w : Path ℕ). ContainsKept t.faults w.0 ls) r.2 (has_value.says r.0 r.1);
+    value = λ path on. let source = of_times path on in
+        subst (λ (w : Path ℕ). w.1 ≡ time_later delay y) source.2
+        (ap (time_later delay) (has_value.value source.0 source.1));
+    says = λ path on. let source = of_times path on in
+        subst (λ (w : Path ℕ). ContainsKept t.faults w.0 ls) source.2 (has_value.says source.0 source.1);
   }
 
 -- the tree `tree`, read with each time `delay` later, has the later times
@@ -132,7 +139,7 @@ no_more g tree t is made s few ls x has_value =
     agrees_map s (λ y z. z ≡ time_later 0 y) tree t ls (λ y. time_later 0 y ≡ x) (λ z. z ≡ x)
     (few_of g.faults tree.faults s is.faults few)
     (each_of g tree.faults tree is.faults is) made
-    (λ y z e f. f ∙ e) (from_ends s tree ls x has_value)
+    (λ y z is_x is_made. is_made ∙ is_x) (from_ends s tree ls x has_value)
 
 -- ---- the later of two
 
@@ -153,18 +160,18 @@ module _ {T U V : Type 0} (g : Graph) (number : T → ℕ) (other_number : U →
       (λ z. z ≡ makes (max x y))
       (few_of g.faults a.faults s of_a.faults few) (of_b.faults ∙ sym of_a.faults)
       (each_of g a.faults a of_a.faults of_a) (each_of g a.faults b of_a.faults of_b) made
-      (λ v w z d e i. i ∙ ap₂ (λ m n. makes (max m n)) d e) has_value other
+      (λ v w z is_x is_y is_made. is_made ∙ ap₂ (λ m n. makes (max m n)) is_x is_y) has_value other
 
   -- the same, with the literals of b first
   pub made_turned : Agrees s by_a (λ v. number v ≡ x) a → Agrees s by_b (λ w. other_number w ≡ y) b →
       HasValueFrom s (by_b ++ by_a) (makes (max y x)) t
   made_turned has_value other =
       agrees_weaker s t (by_a ++ by_b) (by_b ++ by_a) (λ z. z ≡ makes (max x y)) (λ z. z ≡ makes (max y x))
-      (λ l j. elim (Contains-append_cases by_a by_b l j) [
-        | inl i ↦ Contains-append_right by_b by_a l i
-        | inr i ↦ Contains-append_left by_b by_a l i
+      (λ literal listed. elim (Contains-append_cases by_a by_b literal listed) [
+        | inl in_first ↦ Contains-append_right by_b by_a literal in_first
+        | inr in_second ↦ Contains-append_left by_b by_a literal in_second
       ])
-      (λ z e. e ∙ ap makes (let same : max x y ≡ max y x = omega arith in same)) (made_valued has_value other)
+      (λ z is_max. is_max ∙ ap makes (let same : max x y ≡ max y x = omega arith in same)) (made_valued has_value other)
 
 -- t, a tree of the greater time of the trees `one` and `two`, is the later of the two
 pub latest_valued : (g : Graph) (one two t : TreeState ℕ) → IsTree g one → IsTree g two →
@@ -188,8 +195,9 @@ module _ {V : Type 0} (g : Graph) (makes : ℕ → V) (delay d : ℕ) (same_dela
   -- if the later tree has a value, the tree that is read agrees with it
   pub as_read : (s : Scenario) (ls : List Literal) (n : ℕ) → HasValueFrom s ls n (later_by d read) →
       Agrees s ls (λ v. time_later delay v ≡ n) times
-  as_read s ls n h = from_times delay s times ls n (subst (λ (m : ℕ). HasValueFrom s ls n (later_by m times)) (sym same_delay)
-      (subst (λ (u : TreeState (Option ℕ)). HasValueFrom s ls n (later_by d u)) (sym is) h))
+  as_read s ls n valued = from_times delay s times ls n
+      (subst (λ (m : ℕ). HasValueFrom s ls n (later_by m times)) (sym same_delay)
+      (subst (λ (u : TreeState (Option ℕ)). HasValueFrom s ls n (later_by d u)) (sym is) valued))
 
   -- what is made of the later of the read tree and another has what is made of the later of their values
   pub valued_and_read : (other : TreeState ℕ) (t : TreeState V) → IsTree g other →
@@ -230,7 +238,7 @@ module _ {V : Type 0} (g : Graph) (makes : ℕ → V) (delay d : ℕ) (same_dela
 pub number_at : (s : Scenario) (c : ℕ) → number_of s (128 + c) ≡ number_of_value (get_or s.values c false)
 number_at s c = cond-false _ (fault_of s (128 + c)) (number_of_value (get_or s.values (128 + c - 128) false))
     (le-ltb (128 + c) 128 (omega arith))
-    ∙ ap (λ d. number_of_value (get_or s.values d false)) (let e : 128 + c - 128 ≡ c = omega arith in e)
+    ∙ ap (λ d. number_of_value (get_or s.values d false)) (let equal : 128 + c - 128 ≡ c = omega arith in equal)
 
 -- t, which picks by the value of condition c (`value`), has the value of `yes_tree` if c is true and of `off_tree` if
 -- it is false
@@ -239,20 +247,21 @@ pub value_picks : {T : Type 0} (g : Graph) (c : ℕ) (value : TreeState Bool) (y
     HasOnePathEach value.faults value.paths →
     IsTree g yes_tree → IsTree g off_tree → IsPick value yes_tree off_tree t →
     PicksByValue g.faults c yes_tree off_tree t
-value_picks g c value y f t is each of_y of_f made s few ls x has_value =
-    let b : Bool = get_or s.values c false in
+value_picks g c value yes_tree off_tree t numbered each of_yes of_off made s few ls x has_value =
+    let c_value : Bool = get_or s.values c false in
     let valued : Agrees s (exactly (128 + c) (number_of s (128 + c)) ∷ []) (λ (d : Bool). number_of_value d ≡ number_of s (128 + c)) value =
-    agrees_number s (128 + c) g.faults number_of_value value few (number_le_top g.faults s few (128 + c)) is in
-    let chosen : Agrees s (exactly (128 + c) (number_of s (128 + c)) ∷ []) (λ (d : Bool). d ≡ b) value =
+    agrees_number s (128 + c) g.faults number_of_value value few (number_le_top g.faults s few (128 + c)) numbered in
+    let chosen : Agrees s (exactly (128 + c) (number_of s (128 + c)) ∷ []) (λ (d : Bool). d ≡ c_value) value =
     agrees_weaker s value (exactly (128 + c) (number_of s (128 + c)) ∷ [])
     (exactly (128 + c) (number_of s (128 + c)) ∷ [])
     (λ (d : Bool). number_of_value d ≡ number_of s (128 + c))
-    (λ (d : Bool). d ≡ b)
-    (λ l j. j) (λ d e. one_value d b (e ∙ number_at s c)) valued in
-    agrees_pick s value y f t b (exactly (128 + c) (number_of s (128 + c)) ∷ []) ls (λ z. z ≡ x)
-    (few_of g.faults value.faults s is.faults few)
-    (of_y.faults ∙ sym is.faults) (of_f.faults ∙ sym is.faults) each (each_of g value.faults y is.faults of_y)
-    (each_of g value.faults f is.faults of_f) made chosen has_value
+    (λ (d : Bool). d ≡ c_value)
+    (λ literal listed. listed) (λ d same_number. one_value d c_value (same_number ∙ number_at s c)) valued in
+    agrees_pick s value yes_tree off_tree t c_value (exactly (128 + c) (number_of s (128 + c)) ∷ []) ls (λ z. z ≡ x)
+    (few_of g.faults value.faults s numbered.faults few)
+    (of_yes.faults ∙ sym numbered.faults) (of_off.faults ∙ sym numbered.faults) each
+    (each_of g value.faults yes_tree numbered.faults of_yes)
+    (each_of g value.faults off_tree numbered.faults of_off) made chosen has_value
 
 -- ---- where a guard comes to an activation
 
@@ -272,12 +281,12 @@ active_test k c off on f y t of_off of_on picks s few = go (get_or s.values c fa
     go : (d : Bool) → get_or s.values c false ≡ d →
         HasValueFrom s (values_known s (c ∷ (if d then way on s.values else way off s.values)))
         (is_active (if d then outcome_at on s.values else outcome_at off s.values)) t
-    go true e = picks s few (values_known s (way on s.values)) (is_active (outcome_at on s.values))
+    go true c_true = picks s few (values_known s (way on s.values)) (is_active (outcome_at on s.values))
         (subst (λ (d : Bool). HasValueFrom s (values_known s (way on s.values)) (is_active (outcome_at on s.values)) (if d then y else f))
-        (sym e) (of_on s few))
-    go false e = picks s few (values_known s (way off s.values)) (is_active (outcome_at off s.values))
+        (sym c_true) (of_on s few))
+    go false c_false = picks s few (values_known s (way off s.values)) (is_active (outcome_at off s.values))
         (subst (λ (d : Bool). HasValueFrom s (values_known s (way off s.values)) (is_active (outcome_at off s.values)) (if d then y else f))
-        (sym e) (of_off s few))
+        (sym c_false) (of_off s few))
 
 -- ---- when a node has heard what a guard tests
 
@@ -287,18 +296,20 @@ pub heard_leaf : (g : Graph) (f : ForestState) (node : ℕ) (a : Activation) (t 
 heard_leaf g f node a t is s few support time valued = agrees_constant s 0 g.faults t (λ y. y ≡ 0) refl is
 
 -- each literal of c or of the conditions `ws` is one of c and `ws` together
-support_first : (s : Scenario) (support : ℕ → List Literal) (c : ℕ) (ws : List ℕ) (l : Literal) →
-    Contains (support c ++ value_known s c ∷ support_of s support ws) l
-    → Contains (support_of s support (c ∷ ws)) l
-support_first s support c ws l j = elim (Contains-append_cases (support c) (value_known s c ∷ support_of s support ws) l j) [
-  | inl i ↦ Contains-append_left (support c ++ value_known s c ∷ []) (support_of s support ws) l
-      (Contains-append_left (support c) (value_known s c ∷ []) l i)
-  | inr i ↦ elim (Contains-cases (value_known s c) (support_of s support ws) l i) [
-    | inl e ↦ Contains-append_left (support c ++ value_known s c ∷ []) (support_of s support ws) l
-        (Contains-append_right (support c) (value_known s c ∷ []) l (subst (Contains (value_known s c ∷ [])) e (Contains-first (value_known s c) [])))
-    | inr more ↦ Contains-append_right (support c ++ value_known s c ∷ []) (support_of s support ws) l more
-  ]
-]
+support_first : (s : Scenario) (support : ℕ → List Literal) (c : ℕ) (ws : List ℕ) (literal : Literal) →
+    Contains (support c ++ value_known s c ∷ support_of s support ws) literal
+    → Contains (support_of s support (c ∷ ws)) literal
+support_first s support c ws literal listed =
+    elim (Contains-append_cases (support c) (value_known s c ∷ support_of s support ws) literal listed) [
+      | inl of_c ↦ Contains-append_left (support c ++ value_known s c ∷ []) (support_of s support ws) literal
+          (Contains-append_left (support c) (value_known s c ∷ []) literal of_c)
+      | inr of_rest ↦ elim (Contains-cases (value_known s c) (support_of s support ws) literal of_rest) [
+        | inl is_value ↦ Contains-append_left (support c ++ value_known s c ∷ []) (support_of s support ws) literal
+            (Contains-append_right (support c) (value_known s c ∷ []) literal
+            (subst (Contains (value_known s c ∷ [])) is_value (Contains-first (value_known s c) [])))
+        | inr more ↦ Contains-append_right (support c ++ value_known s c ∷ []) (support_of s support ws) literal more
+      ]
+    ]
 
 -- the latest of the times of x and `xs` is the later of that of x and the latest of those of `xs`
 pub latest-cons : (delay : ℕ → ℕ) (time : ℕ → Option ℕ) (x : ℕ) (xs : List ℕ) →
@@ -332,36 +343,41 @@ heard_test g f node c off on a b further t of_off of_on picks latest s few suppo
         (support_of s support (c ∷ ws))
         (λ z. z ≡ max (time_later (delay c) (time c)) (latest_of delay time ws))
         (λ z. z ≡ latest_of delay time (c ∷ ws))
-        (λ l j. support_first s support c ws l j)
-        (λ z e. e ∙ sym (latest-cons delay time c ws))
+        (λ literal listed. support_first s support c ws literal listed)
+        (λ z equal. equal ∙ sym (latest-cons delay time c ws))
         (latest s few (support c) (value_known s c ∷ support_of s support ws) (time_later (delay c) (time c)) (latest_of delay time ws) first second)
 
     -- by the value of c: the conditions that are tested behind it are those of the side that it picks
     go : (d : Bool) → get_or s.values c false ≡ d →
         HasValueFrom s (support_of s support (c ∷ (if d then way on s.values else way off s.values)))
         (latest_of delay time (c ∷ (if d then way on s.values else way off s.values))) t
-    go true e = joined (way on s.values)
+    go true c_true = joined (way on s.values)
         (picks s few (support_of s support (way on s.values)) (latest_of delay time (way on s.values))
         (subst (λ (d : Bool). HasValueFrom s (support_of s support (way on s.values)) (latest_of delay time (way on s.values)) (if d then b else a))
-        (sym e)
+        (sym c_true)
         (of_on s few support time
-        (λ x j. valued x (Contains-rest c _ x (subst (λ (d : Bool). Contains (if d then way on s.values else way off s.values) x) (sym e) j))))))
-    go false e = joined (way off s.values)
+        (λ x on_way. valued x (Contains-rest c _ x
+        (subst (λ (d : Bool). Contains (if d then way on s.values else way off s.values) x)
+        (sym c_true) on_way))))))
+    go false c_false = joined (way off s.values)
         (picks s few (support_of s support (way off s.values)) (latest_of delay time (way off s.values))
         (subst (λ (d : Bool). HasValueFrom s (support_of s support (way off s.values)) (latest_of delay time (way off s.values)) (if d then b else a))
-        (sym e)
+        (sym c_false)
         (of_off s few support time
-        (λ x j. valued x (Contains-rest c _ x (subst (λ (d : Bool). Contains (if d then way on s.values else way off s.values) x) (sym e) j))))))
+        (λ x on_way. valued x (Contains-rest c _ x
+        (subst (λ (d : Bool). Contains (if d then way on s.values else way off s.values) x)
+        (sym c_false) on_way))))))
 
 -- ---- what holds of all of a list holds of its parts
 
 -- if the list `whole` is x and then xs, a fact of all its elements is one of x and of all of xs
 pub all_parts : {X : Type 0} (P : X → Type 0) (whole : List X) (x : X) (xs : List X) → whole ≡ x ∷ xs → All P whole →
     P x × All P xs
-all_parts P whole x xs is h =
-    let all = subst (All P) is h in (
+all_parts P whole x xs is holds =
+    let all = subst (All P) is holds in (
       All-contains P (x ∷ xs) x all (Contains-first x xs),
-      All-weaker (Contains xs) P (λ y j. All-contains P (x ∷ xs) y all (Contains-rest x xs y j)) xs (All-contains_itself xs),
+      All-weaker (Contains xs) P (λ y in_rest. All-contains P (x ∷ xs) y all (Contains-rest x xs y in_rest)) xs
+          (All-contains_itself xs),
     )
 
 -- ---- inputs
@@ -384,7 +400,7 @@ own_latest g time x (e ∷ es) own there =
     omega (
       arith,
       own_early g time x e es own_each.0 there,
-      own_latest g time x es own_each.1 (λ d j. there d (Contains-rest e es d j)),
+      own_latest g time x es own_each.1 (λ d in_rest. there d (Contains-rest e es d in_rest)),
       latest-cons (input_delay g) time e es,
     )
 
@@ -393,9 +409,9 @@ pub support_as_first : (first some more : List Literal) → ((l : Literal) → C
     (l : Literal) →
     Contains (first ++ some) l →
     Contains (first ++ more) l
-support_as_first first some more within l j = elim (Contains-append_cases first some l j) [
-  | inl i ↦ Contains-append_left first more l i
-  | inr i ↦ Contains-append_right first more l (within l i)
+support_as_first first some more within l listed = elim (Contains-append_cases first some l listed) [
+  | inl in_first ↦ Contains-append_left first more l in_first
+  | inr in_some ↦ Contains-append_right first more l (within l in_some)
 ]
 
 -- given: a forest f, a scenario s, and literals `chosen_by` that stand first
@@ -411,10 +427,13 @@ module _ (g : Graph) (f : ForestState) (s : Scenario) (chosen_by : List Literal)
       (λ y. y ≡ Some (max (max x release) latest))
       (λ y. y ≡ Some (max (max x release) (latest_of (input_delay g) time (e ∷ es))))
       (support_as_first chosen_by (base ++ flat_map support es) (base ++ flat_map support (e ∷ es))
-      (support_as_first base (flat_map support es) (flat_map support (e ∷ es)) (λ l j. Contains-append_right (support e) (flat_map support es) l j)))
-      (λ y d. d ∙ ap Some (let same : max (max x release) latest ≡ max (max x release) (latest_of (input_delay g) time (e ∷ es)) =
+      (support_as_first base (flat_map support es) (flat_map support (e ∷ es))
+      (λ literal listed. Contains-append_right (support e) (flat_map support es) literal listed)))
+      (λ y is_start. is_start ∙ ap Some
+      (let same : max (max x release) latest ≡ max (max x release) (latest_of (input_delay g) time (e ∷ es)) =
       omega (arith, own_early g time x e es own there, latest-cons (input_delay g) time e es) in same))
-      (starts base x has_value support time (λ d j. there d (Contains-rest e es d j)) (λ d j. valued d (Contains-rest e es d j)))
+      (starts base x has_value support time (λ d in_rest. there d (Contains-rest e es d in_rest))
+      (λ d in_rest. valued d (Contains-rest e es d in_rest)))
 
   -- for an input from another node, the starts after the later of it and the wait are those with it
   pub one_input : HasAtMostFaults g.faults s →
@@ -433,21 +452,27 @@ module _ (g : Graph) (f : ForestState) (s : Scenario) (chosen_by : List Literal)
       (λ y. y ≡ Some (max (max (max x at) release) others))
       (λ y. y ≡ Some (max (max x release) (latest_of (input_delay g) time (e ∷ es))))
       (support_as_first chosen_by ((base ++ support e) ++ flat_map support es) (base ++ flat_map support (e ∷ es))
-      (λ l j. within l (Contains-append_cases (base ++ support e) (flat_map support es) l j)))
-      (λ y d. d ∙ ap Some (let same : max (max (max x at) release) others ≡ max (max x release) (latest_of (input_delay g) time (e ∷ es)) =
+      (λ literal listed. within literal
+      (Contains-append_cases (base ++ support e) (flat_map support es) literal listed)))
+      (λ y is_start. is_start ∙ ap Some
+      (let same : max (max (max x at) release) others ≡ max (max x release)
+      (latest_of (input_delay g) time (e ∷ es)) =
       omega (arith, latest-cons (input_delay g) time e es) in
       same))
       -- with it as the wait, the other inputs are waited for
-      (starts (base ++ support e) (max x at) joined support time (λ d j own. let h = ready d (Contains-rest e es d j) own in omega (arith, h))
-      (λ d j. valued d (Contains-rest e es d j)))
+      (starts (base ++ support e) (max x at) joined support time
+      (λ d in_rest own. let by_then = ready d (Contains-rest e es d in_rest) own in omega (arith, by_then))
+      (λ d in_rest. valued d (Contains-rest e es d in_rest)))
     where
       -- the literals of the wait, of e and of the other inputs are those of the wait and of all inputs
       within : (l : Literal) → Contains (base ++ support e) l ⊎ Contains (flat_map support es) l →
           Contains (base ++ flat_map support (e ∷ es)) l
-      within l (inr j) = Contains-append_right base (support e ++ flat_map support es) l (Contains-append_right (support e) (flat_map support es) l j)
-      within l (inl j) =
+      within l (inr of_others) =
+          Contains-append_right base (support e ++ flat_map support es) l
+          (Contains-append_right (support e) (flat_map support es) l of_others)
+      within l (inl of_base) =
           support_as_first base (support e) (support e ++ flat_map support es)
-          (λ m i. Contains-append_left (support e) (flat_map support es) m i) l j
+          (λ literal listed. Contains-append_left (support e) (flat_map support es) literal listed) l of_base
 
   -- if the inputs `es` behind the message e are all of the node itself, the starts by the wait and e are those with all
   pub last_input : (wait : TreeState ℕ) (t : TreeState (Option ℕ)) (release e : ℕ) (es : List ℕ) →
@@ -457,13 +482,16 @@ module _ (g : Graph) (f : ForestState) (s : Scenario) (chosen_by : List Literal)
       StartsAfter g f s chosen_by wait release (e ∷ es) t
   last_input wait t release e es own starts base x has_value support time there valued =
       let at = time_later (input_delay g e) (time e) in
-      let late : latest_of (input_delay g) time es ≤ x = own_latest g time x es own (λ d j. there d (Contains-rest e es d j)) in
+      let late : latest_of (input_delay g) time es ≤ x =
+      own_latest g time x es own (λ d in_rest. there d (Contains-rest e es d in_rest)) in
       agrees_weaker s t (chosen_by ++ (base ++ support e)) (chosen_by ++ (base ++ flat_map support (e ∷ es)))
       (λ y. y ≡ Some (max (max x at) release))
       (λ y. y ≡ Some (max (max x release) (latest_of (input_delay g) time (e ∷ es))))
       (support_as_first chosen_by (base ++ support e) (base ++ flat_map support (e ∷ es))
-      (support_as_first base (support e) (flat_map support (e ∷ es)) (λ l j. Contains-append_left (support e) (flat_map support es) l j)))
-      (λ y d. d ∙ ap Some (let same : max (max x at) release ≡ max (max x release) (latest_of (input_delay g) time (e ∷ es)) =
+      (support_as_first base (support e) (flat_map support (e ∷ es))
+      (λ literal listed. Contains-append_left (support e) (flat_map support es) literal listed)))
+      (λ y is_start. is_start ∙ ap Some
+      (let same : max (max x at) release ≡ max (max x release) (latest_of (input_delay g) time (e ∷ es)) =
       omega (arith, late, latest-cons (input_delay g) time e es) in same))
       (starts base (support e) x at has_value (to_times (input_delay g e) s (input_tree g f e) (support e) (time e) (valued e (Contains-first e es))))
 
@@ -480,8 +508,9 @@ started_none : (g : Graph) (s : Scenario) (t : TreeState (Option ℕ)) (base : L
     HasValueFrom s base (Some (max x release)) t →
     HasValueFrom s (base ++ []) (Some (max (max x release) 0)) t
 started_none g s t base x release has_value = agrees_weaker s t base (base ++ []) (λ y. y ≡ Some (max x release))
-    (λ y. y ≡ Some (max (max x release) 0)) (λ l j. Contains-append_left base [] l j)
-    (λ y e. e ∙ ap Some (let same : max x release ≡ max (max x release) 0 = omega arith in same)) has_value
+    (λ y. y ≡ Some (max (max x release) 0)) (λ literal listed. Contains-append_left base [] literal listed)
+    (λ y is_start. is_start ∙ ap Some (let same : max x release ≡ max (max x release) 0 = omega arith in same))
+    has_value
 
 -- if no inputs are awaited, a tree t of the later of the wait and the release has the starts
 pub start_valued : (g : Graph) (f : ForestState) (wait : TreeState ℕ) (t : TreeState (Option ℕ)) (release : ℕ) →
@@ -492,7 +521,7 @@ start_valued g f wait t release of_wait made s few base x has_value support time
     (agrees_map s (λ y z. z ≡ Some (max y release)) wait t base (λ y. y ≡ x) (λ y. y ≡ Some (max x release))
     (few_of g.faults wait.faults s of_wait.faults few)
     (each_of g wait.faults wait of_wait.faults of_wait) made
-    (λ y z e i. i ∙ ap (λ n. Some (max n release)) e) has_value)
+    (λ y z is_x is_made. is_made ∙ ap (λ n. Some (max n release)) is_x) has_value)
 
 -- if the wait is for the ends `end` and no inputs are awaited, a tree t of the later of the end and the release has the
 -- starts
@@ -503,7 +532,7 @@ start_after_ends g f end t release of_end made s few base x has_value support ti
     (agrees_map s (λ y z. z ≡ Some (max (time_later 0 y) release)) end t base (λ y. time_later 0 y ≡ x) (λ y. y ≡ Some (max x release))
     (few_of g.faults end.faults s of_end.faults few)
     (each_of g end.faults end of_end.faults of_end) made
-    (λ y z e i. i ∙ ap (λ n. Some (max n release)) e) (from_ends s end base x has_value))
+    (λ y z is_x is_made. is_made ∙ ap (λ n. Some (max n release)) is_x) (from_ends s end base x has_value))
 
 -- if activation a is active, the starts after the inputs that a awaits are the starts by a
 pub start_active : (g : Graph) (f : ForestState) (wait : TreeState ℕ) (t : TreeState (Option ℕ)) (release : ℕ) (inputs : List ℕ) (a : Activation) →
@@ -544,18 +573,26 @@ start_test g f wait release inputs c off on a b t of_off of_on picks s few base 
         HasValueFrom s (values_known s (c ∷ (if d then way on s.values else way off s.values))
         ++ start_literals base support inputs (if d then outcome_at on s.values else outcome_at off s.values))
         (start_at x release (input_delay g) time inputs (if d then outcome_at on s.values else outcome_at off s.values)) t
-    go true e = picks s few (says on) (at on)
-        (subst (λ (d : Bool). HasValueFrom s (says on) (at on) (if d then b else a)) (sym e)
-        (of_on s few base x has_value support time (λ y j.
-        there y (subst (λ (d : Bool). Contains (awaited inputs (if d then outcome_at on s.values else outcome_at off s.values)) y) (sym e) j))
-        (λ y j.
-        valued y (subst (λ (d : Bool). Contains (awaited inputs (if d then outcome_at on s.values else outcome_at off s.values)) y) (sym e) j))))
-    go false e = picks s few (says off) (at off)
-        (subst (λ (d : Bool). HasValueFrom s (says off) (at off) (if d then b else a)) (sym e)
-        (of_off s few base x has_value support time (λ y j.
-        there y (subst (λ (d : Bool). Contains (awaited inputs (if d then outcome_at on s.values else outcome_at off s.values)) y) (sym e) j))
-        (λ y j.
-        valued y (subst (λ (d : Bool). Contains (awaited inputs (if d then outcome_at on s.values else outcome_at off s.values)) y) (sym e) j))))
+    go true c_true = picks s few (says on) (at on)
+        (subst (λ (d : Bool). HasValueFrom s (says on) (at on) (if d then b else a)) (sym c_true)
+        (of_on s few base x has_value support time (λ y is_awaited.
+        there y (subst (λ (d : Bool). Contains
+        (awaited inputs (if d then outcome_at on s.values else outcome_at off s.values)) y)
+        (sym c_true) is_awaited))
+        (λ y is_awaited.
+        valued y (subst (λ (d : Bool). Contains
+        (awaited inputs (if d then outcome_at on s.values else outcome_at off s.values)) y)
+        (sym c_true) is_awaited))))
+    go false c_false = picks s few (says off) (at off)
+        (subst (λ (d : Bool). HasValueFrom s (says off) (at off) (if d then b else a)) (sym c_false)
+        (of_off s few base x has_value support time (λ y is_awaited.
+        there y (subst (λ (d : Bool). Contains
+        (awaited inputs (if d then outcome_at on s.values else outcome_at off s.values)) y)
+        (sym c_false) is_awaited))
+        (λ y is_awaited.
+        valued y (subst (λ (d : Bool). Contains
+        (awaited inputs (if d then outcome_at on s.values else outcome_at off s.values)) y)
+        (sym c_false) is_awaited))))
 
 -- ---- trees of a forest
 
@@ -565,10 +602,11 @@ pub times_read : (g : Graph) (f : ForestState) → HasTrees g f → (i : ForestS
     v ≡ get_or i.times at v → at ≡ x →
     x < item_count g →
     v ≡ times_of g f x
-times_read g f has i same v at x is e l =
+times_read g f has i same v at x is is_x below =
     let long = ap (λ (h : ForestState). length h.times) same in
-    get_or_read_under i.times at (length i.times) v (no_tree g.faults) is (omega (arith, e, l, has.times, long)) refl
-    ∙ ap (λ (h : ForestState). times_of g h at) same ∙ ap (times_of g f) e
+    get_or_read_under i.times at (length i.times) v (no_tree g.faults) is (omega (arith, is_x, below, has.times, long))
+    refl
+    ∙ ap (λ (h : ForestState). times_of g h at) same ∙ ap (times_of g f) is_x
 
 -- v, which the code finds at the place `at` in the forest's ends, is the tree of the ends of process p
 pub ends_read : (g : Graph) (f : ForestState) → HasTrees g f → (i : ForestState) → i ≡ f →
@@ -576,18 +614,21 @@ pub ends_read : (g : Graph) (f : ForestState) → HasTrees g f → (i : ForestSt
     v ≡ get_or i.ends at v → at ≡ p →
     p < process_count g →
     v ≡ ends_of g f p
-ends_read g f has i same v at p is e l =
+ends_read g f has i same v at p is is_p below =
     let long = ap (λ (h : ForestState). length h.ends) same in
-    get_or_read_under i.ends at (length i.ends) v (no_tree g.faults) is (omega (arith, e, l, has.ends, long)) refl
-    ∙ ap (λ (h : ForestState). ends_of g h at) same ∙ ap (ends_of g f) e
+    get_or_read_under i.ends at (length i.ends) v (no_tree g.faults) is (omega (arith, is_p, below, has.ends, long))
+    refl
+    ∙ ap (λ (h : ForestState). ends_of g h at) same ∙ ap (ends_of g f) is_p
 
 -- each item has a tree of its times
 pub times_tree : (g : Graph) (f : ForestState) → HasTrees g f → (x : ℕ) → x < item_count g → IsTree g (times_of g f x)
-times_tree g f has x l = All-get_or (IsTree g) f.times x (no_tree g.faults) (omega (arith, l, has.times)) has.all_times
+times_tree g f has x below =
+    All-get_or (IsTree g) f.times x (no_tree g.faults) (omega (arith, below, has.times)) has.all_times
 
 -- each process has a tree of its ends
 pub ends_tree : (g : Graph) (f : ForestState) → HasTrees g f → (p : ℕ) → p < process_count g → IsTree g (ends_of g f p)
-ends_tree g f has p l = All-get_or (IsTree g) f.ends p (no_tree g.faults) (omega (arith, l, has.ends)) has.all_ends
+ends_tree g f has p below =
+    All-get_or (IsTree g) f.ends p (no_tree g.faults) (omega (arith, below, has.ends)) has.all_ends
 
 -- t, which is made of the tree of ends by reading them as times, is one of the graph, and has its values; v is that
 -- tree by the name under which the code reads it
@@ -611,21 +652,21 @@ module _ (g : Graph) (f : ForestState) (node c : ℕ) (further t : TreeState ℕ
       IsLatest g.faults (later_by (if d then 0 else slot_length g (home g (broadcast_item g c)))
       (if d then ends_of g f (process_of g c) else times_of g f (broadcast_item g c))) further t →
       IsLatest g.faults (later_by (heard_delay g node c) (heard_tree g f node c)) further t
-  heard_if d e is = subst (λ (b : Bool). IsLatest g.faults
+  heard_if d on_node is = subst (λ (b : Bool). IsLatest g.faults
       (later_by (if b then 0 else slot_length g (home g (broadcast_item g c)))
-      (if b then ends_of g f (process_of g c) else times_of g f (broadcast_item g c))) further t) (sym e) is
+      (if b then ends_of g f (process_of g c) else times_of g f (broadcast_item g c))) further t) (sym on_node) is
 
   -- if the condition's process is on the node, the node hears it by that process's end
   pub heard_own : node_of g (process_of g c) ≡ node →
       IsLatest g.faults (later_tree (ends_of g f (process_of g c))) further t →
       IsLatest g.faults (later_by (heard_delay g node c) (heard_tree g f node c)) further t
-  heard_own e is = heard_if true (eq-eqb (node_of g (process_of g c)) node e) is
+  heard_own on_node is = heard_if true (eq-eqb (node_of g (process_of g c)) node on_node) is
 
   -- if not, the node hears it by the end of the frame that broadcasts it
   pub heard_other : (node_of g (process_of g c) ≡ node → ⊥) →
       IsLatest g.faults (later_by (slot_length g (home g (broadcast_item g c))) (times_of g f (broadcast_item g c))) further t →
       IsLatest g.faults (later_by (heard_delay g node c) (heard_tree g f node c)) further t
-  heard_other e is = heard_if false (ne_eqb (node_of g (process_of g c)) node e) is
+  heard_other elsewhere is = heard_if false (ne_eqb (node_of g (process_of g c)) node elsewhere) is
 
 -- if e is an input from another node, and t has the later of the wait and the end of e's frame, then t has the later of
 -- the wait and when e is there

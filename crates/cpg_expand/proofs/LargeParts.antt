@@ -20,24 +20,26 @@ module _ {T : Type 0} (large : Activation → Type 0) (fits : Guard → TreeStat
 
   -- a fault for a leaf that is too large is one for the guard
   pub large_leaf : (a : Activation) → guard ≡ Leaf a → ShowsLarge wide (large a) fault → IsShown guard
-  large_leaf a is h = subst IsShown (sym is) h
+  large_leaf a is shown = subst IsShown (sym is) shown
 
   -- given: the guard tests a condition
   module _ (c : ℕ) (off on : Guard) (is : guard ≡ Test c off on) where
     -- a fault for the side of `false` is one for the guard
     pub large_off : IsShown off → IsShown guard
-    large_off h = subst IsShown (sym is)
-        (shown_as (IsLargeDown large fits off) (IsLargeDown large fits (Test c off on)) wide fault (λ x. inl x) h)
+    large_off shown = subst IsShown (sym is)
+        (shown_as (IsLargeDown large fits off) (IsLargeDown large fits (Test c off on)) wide fault (λ x. inl x) shown)
 
     -- a fault for the side of `true` is one for the guard
     pub large_on : IsShown on → IsShown guard
-    large_on h = subst IsShown (sym is)
-        (shown_as (IsLargeDown large fits on) (IsLargeDown large fits (Test c off on)) wide fault (λ x. inr (inl x)) h)
+    large_on shown = subst IsShown (sym is)
+        (shown_as (IsLargeDown large fits on) (IsLargeDown large fits (Test c off on)) wide fault
+        (λ x. inr (inl x)) shown)
 
     -- a fault for the test's own tree is one for the guard
     pub large_part : (t : TreeState T) → fits (Test c off on) t → ShowsLarge wide (IsLarge t) fault → IsShown guard
-    large_part t has_value h = subst IsShown (sym is)
-        (shown_as (IsLarge t) (IsLargeDown large fits (Test c off on)) wide fault (λ x. inr (inr (t, has_value, x))) h)
+    large_part t has_value shown = subst IsShown (sym is)
+        (shown_as (IsLarge t) (IsLargeDown large fits (Test c off on)) wide fault (λ x. inr (inr (t, has_value, x)))
+        shown)
 
 -- given: a list of inputs with a first one, and a fault
 -- `wait`: what the start waits for; `wide`, `fault`: the item that a fault would name, and the fault
@@ -50,18 +52,19 @@ module _ (g : Graph) (f : ForestState) (wait : TreeState ℕ) (wide : Option ℕ
 
   -- an input of the node itself makes no tree, so a fault for the inputs behind it is one for all
   pub large_own : is_message g e ≡ false → IsShownWith es → IsShownWith whole
-  large_own own h = subst IsShownWith (sym is)
-      (shown_as (IsLargeWith g f wait es) (IsLargeWith g f wait (e ∷ es)) wide fault (λ x. inl (own, x)) h)
+  large_own own shown = subst IsShownWith (sym is)
+      (shown_as (IsLargeWith g f wait es) (IsLargeWith g f wait (e ∷ es)) wide fault (λ x. inl (own, x)) shown)
 
   -- given: the tree `both` of when the wait is over and input e is there too
   module _ (both : TreeState ℕ)
       (made : IsLatest g.faults wait (later_by (input_delay g e) (input_tree g f e)) both) where
     -- a fault for the tree `both` is one for all inputs
     pub large_both : ShowsLarge wide (IsLarge both) fault → IsShownWith whole
-    large_both h = subst IsShownWith (sym is)
-        (shown_as (IsLarge both) (IsLargeWith g f wait (e ∷ es)) wide fault (λ x. inr (both, made, inl x)) h)
+    large_both shown = subst IsShownWith (sym is)
+        (shown_as (IsLarge both) (IsLargeWith g f wait (e ∷ es)) wide fault (λ x. inr (both, made, inl x)) shown)
 
     -- a fault for the inputs behind e, with `both` as the wait, is one for all inputs
     pub large_later : ShowsLarge wide (IsLargeWith g f both es) fault → IsShownWith whole
-    large_later h = subst IsShownWith (sym is)
-        (shown_as (IsLargeWith g f both es) (IsLargeWith g f wait (e ∷ es)) wide fault (λ x. inr (both, made, inr x)) h)
+    large_later shown = subst IsShownWith (sym is)
+        (shown_as (IsLargeWith g f both es) (IsLargeWith g f wait (e ∷ es)) wide fault (λ x. inr (both, made, inr x))
+        shown)

@@ -21,43 +21,44 @@ use Rattle.cpg_expand.specs.Sent.{AreItemsAdded}
 -- a fault shown for one cause is shown for another that follows from it
 pub shown_as : (A B : Type 0) (wide : Option ℕ) (fault : BuildFault) → (A → B) → ShowsLarge wide A fault →
     ShowsLarge wide B fault
-shown_as A B wide (TooWide x) f h = (h.0, f h.1)
-shown_as A B wide OutOfMemory f h = h
+shown_as A B wide (TooWide x) follows shows = (shows.0, follows shows.1)
+shown_as A B wide OutOfMemory follows shows = shows
 
 -- a fault that is handed on shows what it showed
 pub handed_on : {T : Type 0} (P : BuildFault → Type 0) (result : Result T BuildFault) (shown : BuildFault) →
     IsErrAnd result (λ e. e ≡ shown) → P shown → IfErr result P
-handed_on P (Ok x) shown same h = absurd same
-handed_on P (Err e) shown same h = subst P (sym same) h
+handed_on P (Ok x) shown same shows = absurd same
+handed_on P (Err e) shown same shows = subst P (sym same) shows
 
 -- a fault that is handed on shows any cause that follows from its own
 pub handed_as : {T : Type 0} (A B : Type 0) (wide : Option ℕ) (result : Result T BuildFault) (shown : BuildFault) →
     IsErrAnd result (λ e. e ≡ shown) → (A → B) →
     ShowsLarge wide A shown →
     IfErr result (ShowsLarge wide B)
-handed_as A B wide (Ok x) shown same f h = absurd same
-handed_as A B wide (Err e) shown same f h = subst (ShowsLarge wide B) (sym same) (shown_as A B wide shown f h)
+handed_as A B wide (Ok x) shown same follows shows = absurd same
+handed_as A B wide (Err e) shown same follows shows =
+    subst (ShowsLarge wide B) (sym same) (shown_as A B wide shown follows shows)
 
 -- an answer whose fault has one cause has any cause that follows from it
 pub shown_for : {T : Type 0} (result : Result T BuildFault) (P Q : BuildFault → Type 0) → IfErr result P →
     ((fault : BuildFault) → P fault → Q fault) → IfErr result Q
-shown_for (Ok x) P Q h f = h
-shown_for (Err e) P Q h f = f e h
+shown_for (Ok x) P Q shows follows = shows
+shown_for (Err e) P Q shows follows = follows e shows
 
 -- a fault that is shown for one name of an item is shown for an equal name
 pub named_as : (A : Type 0) (wide other : Option ℕ) (fault : BuildFault) → wide ≡ other → ShowsLarge wide A fault →
     ShowsLarge other A fault
-named_as A wide other fault e h = subst (λ o. ShowsLarge o A fault) e h
+named_as A wide other fault same shows = subst (λ o. ShowsLarge o A fault) same shows
 
 -- if no item is to be named, no fault names one
 pub none_named : (A : Type 0) (is_shown : ℕ → Type 0) (fault : BuildFault) → ShowsLarge None A fault →
     ShowsBuildFault is_shown fault
-none_named A is_shown (TooWide x) h = absurd (no_name x h.0)
+none_named A is_shown (TooWide x) shows = absurd (no_name x shows.0)
   where
     -- `None` has no item
     no_name : (x : ℕ) → None ≡ Some x → ⊥
-    no_name x e = cc
-none_named A is_shown OutOfMemory h = tt
+    no_name x equal = cc
+none_named A is_shown OutOfMemory shows = tt
 
 -- what is too large by other names of the graph and the guard is so by these
 pub thawed_as : (g h : Graph) → h ≡ g → (p : ℕ) (f : ForestState) (guard found : Guard) → found ≡ guard →
@@ -71,9 +72,9 @@ pub added_wide : (g : Graph) (order : List ℕ) (chooser : TreeState Bool) (xs :
     (frozen_old frozen_new : List (Option ℕ)) →
     AreItemsAdded g order chooser xs old new frozen_old frozen_new → new.wide ≡ old.wide
 -- by induction on the list
-added_wide g order chooser [] old new frozen_old frozen_new h = ap (λ (f : ForestState). f.wide) h.0
-added_wide g order chooser (x ∷ xs) old new frozen_old frozen_new h =
-    added_wide g order chooser xs h.0 new h.1 frozen_new h.3 ∙ ap (λ (f : ForestState). f.wide) h.2.is
+added_wide g order chooser [] old new frozen_old frozen_new added = ap (λ (f : ForestState). f.wide) added.0
+added_wide g order chooser (x ∷ xs) old new frozen_old frozen_new added =
+    added_wide g order chooser xs added.0 new added.1 frozen_new added.3 ∙ ap (λ (f : ForestState). f.wide) added.2.is
 
 -- the forest `new`, in which p has begun, has the same item to name as `old`
 pub begun_wide : (g : Graph) (order : List ℕ) (guards : Guards) (p : ℕ) (old new : ForestState)
@@ -95,14 +96,14 @@ module _ (g : Graph) (urgency : List ℕ) (guards : Guards) (are : AreGuardsOf g
   -- a tree on the way to the process's start and end that is too large is one along the order
   pub large_begun : p < process_count g → IsGrown g order k frozen f → IsLargeBegun g order guards p f →
       HasLargeTree g urgency order
-  large_begun l grown large = record {
+  large_begun below grown large = record {
     guards = guards;
     are = are;
     reached = k;
     frozen = frozen;
     forest = f;
     grown = grown;
-    large = inr (inr (p, l, stands, large));
+    large = inr (inr (p, below, stands, large));
   }
 
   -- a tree that is too large once the process has sent is one along the order
@@ -110,8 +111,8 @@ module _ (g : Graph) (urgency : List ℕ) (guards : Guards) (are : AreGuardsOf g
       HasLargeTree g urgency order
   -- a tree of an item that p sends, which stands before the place reached
   large_left there grown (inl large) =
-      let q = in_queue g p large.item large.sent in
-      let by_p : place order (producer g large.item) ≡ k = ap (place order) q.by ∙ stands in
+      let its_queue = in_queue g p large.item large.sent in
+      let by_p : place order (producer g large.item) ≡ k = ap (place order) its_queue.by ∙ stands in
       record {
         guards = guards;
         are = are;
@@ -119,7 +120,7 @@ module _ (g : Graph) (urgency : List ℕ) (guards : Guards) (are : AreGuardsOf g
         frozen = frozen;
         forest = f;
         grown = grown;
-        large = inl (large.item, q.within, omega (arith, by_p), large.large);
+        large = inl (large.item, its_queue.within, omega (arith, by_p), large.large);
       }
   -- a tree of the free slots of p's node
   large_left there grown (inr large) = record {

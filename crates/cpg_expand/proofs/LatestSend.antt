@@ -33,29 +33,30 @@ use Rattle.cpg_expand.proofs.FrozenFound.{some_same}
 
 -- if a round takes no time, all slots are at the same time
 no_turn : (j k turn off : ℕ) → turn ≡ 0 → j * turn + off ≤ k * turn + off
-no_turn j k turn off e = subst (λ n. j * n + off ≤ k * n + off) (sym e) (omega arith)
+no_turn j k turn off no_time = subst (λ n. j * n + off ≤ k * n + off) (sym no_time) (omega arith)
 
 -- a slot of a later round is later
 more_turns : (j k turn off : ℕ) → j ≤ k → j * turn + off ≤ k * turn + off
-more_turns j k turn off l = omega (arith, mul-le-mul_right turn l)
+more_turns j k turn off no_more = omega (arith, mul-le-mul_right turn no_more)
 
 -- the first slot from a later time on is no earlier
 next_slot_later : (g : Graph) (node earlier later : ℕ) → earlier ≤ later →
     next_slot g node earlier ≤ next_slot g node later
-next_slot_later g node earlier later l = elim (cases_lt 0 (round g)) [
-  | inl h ↦ more_turns (first_from g node earlier) (first_from g node later) (round g) (offset g node)
-      (first_from_least g node earlier h (first_from g node later) (omega (arith, l, next_slot_above g node later h)))
-  | inr z ↦ no_turn (first_from g node earlier) (first_from g node later) (round g) (offset g node)
-      (let e : round g ≡ 0 = omega (arith, z) in e)
+next_slot_later g node earlier later no_later = elim (cases_lt 0 (round g)) [
+  | inl takes_time ↦ more_turns (first_from g node earlier) (first_from g node later) (round g) (offset g node)
+      (first_from_least g node earlier takes_time (first_from g node later)
+      (omega (arith, no_later, next_slot_above g node later takes_time)))
+  | inr no_time ↦ no_turn (first_from g node earlier) (first_from g node later) (round g) (offset g node)
+      (let is_none : round g ≡ 0 = omega (arith, no_time) in is_none)
 ]
 
 -- what the trees say of the send of x in scenario s, with its run t
 pub record IsSendByTrees (g : Graph) (order : List ℕ) (f : ForestState) (goes : TreeState Bool)
     (end : TreeState (Option ℕ)) (x : ℕ) (s : Scenario) (t : Times) : Type 0 where
   -- `goes` says whether x is active
-  pub acts : (c : Path Bool) → IsOnPath goes.paths s c → c.1 ≡ item_active g s.values (item_at g x)
+  pub acts : (path : Path Bool) → IsOnPath goes.paths s path → path.1 ≡ item_active g s.values (item_at g x)
   -- `end` has the end of x's producer
-  pub ends : (e : Path (Option ℕ)) → IsOnPath end.paths s e → e.1 ≡ get_or t.ends (producer g x) None
+  pub ends : (path : Path (Option ℕ)) → IsOnPath end.paths s path → path.1 ≡ get_or t.ends (producer g x) None
   -- the producer ends where x is active
   pub ended : item_active g s.values (item_at g x) ≡ true →
       get_or t.ends (producer g x) None ≡ Some (end_in t (producer g x))
@@ -101,22 +102,24 @@ module _ (g : Graph) (order : List ℕ) (frozen : List (Option ℕ)) (topologica
 
     -- if the tree says that the item goes, it is active
     acts : HasValueAt goes.paths true s → item_active g s.values (item_at g x) ≡ true
-    acts h = sym (here.acts h.0 h.1) ∙ h.2
+    acts chosen = sym (here.acts chosen.0 chosen.1) ∙ chosen.2
 
     -- if the item is active, the tree says that it goes
     goes_there : item_active g s.values (item_at g x) ≡ true → HasValueAt goes.paths true s
-    goes_there on = let c = the_path g.faults goes.paths of_goes.each s few in (c.0, c.1, here.acts c.0 c.1 ∙ on)
+    goes_there on = let path = the_path g.faults goes.paths of_goes.each s few in
+        (path.0, path.1, here.acts path.0 path.1 ∙ on)
 
     -- then the tree of its producer's ends has the end where it goes
     end_there : item_active g s.values (item_at g x) ≡ true → HasWhere end goes (end_in t (producer g x)) s
     end_there on =
-        let e = the_path g.faults end.paths of_end.each s few in
-        record { has = (e.0, e.1, here.ends e.0 e.1 ∙ here.ended on); there = goes_there on }
+        let path = the_path g.faults end.paths of_end.each s few in
+        record { has = (path.0, path.1, here.ends path.0 path.1 ∙ here.ended on); there = goes_there on }
 
     -- an end that this tree has there is the run's
     end_is : (last : ℕ) → HasWhere end goes last s → last ≡ end_in t (producer g x)
-    end_is last h =
-        some_same last (end_in t (producer g x)) (sym h.has.2 ∙ here.ends h.has.0 h.has.1 ∙ here.ended (acts h.there))
+    end_is last last_end =
+        some_same last (end_in t (producer g x)) (sym last_end.has.2 ∙ here.ends last_end.has.0 last_end.has.1
+        ∙ here.ended (acts last_end.there))
 
     -- the first slot after the end is one of the bounds
     slot_in : next_slot g (home g x) (end_in t (producer g x)) ≤ bounds
@@ -125,30 +128,33 @@ module _ (g : Graph) (order : List ℕ) (frozen : List (Option ℕ)) (topologica
 
     -- a time at which an item queued before it leaves the slots free is no later than the bounds
     queued_below : (m : ℕ) → HasQueuedOf g order f goes x (item_count g) m s → m ≤ bounds
-    queued_below m h = omega
-        (arith, h.there.there.is, here.came h.item h.there.there.time h.below h.there.before h.there.there.has.has)
+    queued_below m queued = omega (
+      arith,
+      queued.there.there.is,
+      here.came queued.item queued.there.there.time queued.below queued.there.before queued.there.there.has.has,
+    )
 
     -- what is within the bounds is no later than the send if it weren't frozen
     by_bounds : (m : ℕ) → m ≤ bounds → m ≤ unfrozen_time g order s t x
-    by_bounds m h = omega (arith, h, here.value)
+    by_bounds m at_most = omega (arith, at_most, here.value)
 
   -- ---- in all
 
-  -- given: the latest time m that is found for the send of x (`r`)
-  module _ (m : ℕ) (r : IsSlotAt g order f (share_of g (home g x)) goes end x m) where
+  -- given: the latest time m that is found for the send of x (`found`)
+  module _ (m : ℕ) (found : IsSlotAt g order f (share_of g (home g x)) goes end x m) where
     -- the latest end is one of a run, and so less than 2^59
-    last_early : r.last < 2 ^ 59
+    last_early : found.last < 2 ^ 59
     last_early =
-        let t = a_run g order frozen r.ends.scenario topological in
+        let its_run = a_run g order frozen found.ends.scenario topological in
         omega (
           arith,
-          end_is r.ends.scenario r.ends.lawful t.0 t.1 r.last r.ends.there,
-          (here r.ends.scenario r.ends.lawful t.0 t.1).early,
+          end_is found.ends.scenario found.ends.lawful its_run.0 its_run.1 found.last found.ends.there,
+          (here found.ends.scenario found.ends.lawful its_run.0 its_run.1).early,
         )
 
     -- the share of the item's node gives the first slot after it
-    slot_is : slot_at (share_of g (home g x)) (Some r.last) ≡ next_slot g (home g x) r.last
-    slot_is = cond-true _ (next_slot g (home g x) r.last) 0 (lt-ltb r.last (2 ^ 59) last_early)
+    slot_is : slot_at (share_of g (home g x)) (Some found.last) ≡ next_slot g (home g x) found.last
+    slot_is = cond-true _ (next_slot g (home g x) found.last) 0 (lt-ltb found.last (2 ^ 59) last_early)
 
     -- no run sends the item later than the latest time
     slot_above : (s : Scenario) → IsScenario g s → (t : Times) → IsRun g order frozen s t →
@@ -158,25 +164,25 @@ module _ (g : Graph) (order : List ℕ) (frozen : List (Option ℕ)) (topologica
         -- the slot from the producer's end on
         (omega (
           arith,
-          next_slot_later g (home g x) (end_in t (producer g x)) r.last
-              (r.ends.above (end_in t (producer g x)) s law (end_there s law t run on)),
+          next_slot_later g (home g x) (end_in t (producer g x)) found.last
+              (found.ends.above (end_in t (producer g x)) s law (end_there s law t run on)),
           slot_is,
-          r.raised.from,
+          found.raised.from,
         ))
         -- a round after each item before it
-        (λ y c a.
-        let k = (here s law t run).sent y c a in
+        (λ y is_before y_acts.
+        let its_time = (here s law t run).sent y is_before y_acts in
         omega (
           arith,
-          k.2,
-          r.raised.above (time_later (round g) (Some k.0)) s law (record {
+          its_time.2,
+          found.raised.above (time_later (round g) (Some its_time.0)) s law (record {
             item = y;
-            below = k.3;
+            below = its_time.3;
             there = record {
-              before = k.4;
+              before = its_time.4;
               there = record {
-                time = k.0;
-                has = record { has = k.1; there = goes_there s law t run on };
+                time = its_time.0;
+                has = record { has = its_time.1; there = goes_there s law t run on };
                 is = refl;
               };
             };
@@ -191,36 +197,37 @@ module _ (g : Graph) (order : List ℕ) (frozen : List (Option ℕ)) (topologica
     -- if the tree says that the item goes in a scenario, it is active there
     acts_there : (s : Scenario) → IsScenario g s → HasValueAt goes.paths true s →
         item_active g s.values (item_at g x) ≡ true
-    acts_there s law h = let t = a_run g order frozen s topological in acts s law t.0 t.1 h
+    acts_there s law chosen = let its_run = a_run g order frozen s topological in acts s law its_run.0 its_run.1 chosen
 
     -- the latest time is reached by a run: that of the last queued item that raised it, or else that of the latest
     -- end
     slot_reached : Reached
-    slot_reached = elim r.raised.found [
+    slot_reached = elim found.raised.found [
       -- a queued item has raised it: in the scenario in which that is sent as late
-      | inr h ↦ (
-        h.0,
-        h.1,
-        acts_there h.0 h.1 h.2.there.there.has.there,
-        λ t run. by_bounds h.0 h.1 t run m (queued_below h.0 h.1 t run m h.2),
+      | inr raised_in ↦ (
+        raised_in.0,
+        raised_in.1,
+        acts_there raised_in.0 raised_in.1 raised_in.2.there.there.has.there,
+        λ t run. by_bounds raised_in.0 raised_in.1 t run m (queued_below raised_in.0 raised_in.1 t run m raised_in.2),
       )
       -- nothing has raised it: in the scenario with the latest end
       | inl same ↦ (
-        r.ends.scenario,
-        r.ends.lawful,
-        acts_there r.ends.scenario r.ends.lawful r.ends.there.there,
-        λ t run. by_bounds r.ends.scenario r.ends.lawful t run m
-            (by_slot m (slot_at (share_of g (home g x)) (Some r.last)) (next_slot g (home g x) r.last)
+        found.ends.scenario,
+        found.ends.lawful,
+        acts_there found.ends.scenario found.ends.lawful found.ends.there.there,
+        λ t run. by_bounds found.ends.scenario found.ends.lawful t run m
+            (by_slot m (slot_at (share_of g (home g x)) (Some found.last)) (next_slot g (home g x) found.last)
             (next_slot g (home g x) (end_in t (producer g x)))
-            (greatest (send_bounds g order r.ends.scenario t x))
-            same slot_is (ap (next_slot g (home g x)) (end_is r.ends.scenario r.ends.lawful t run r.last r.ends.there))
-            (slot_in r.ends.scenario r.ends.lawful t run)),
+            (greatest (send_bounds g order found.ends.scenario t x))
+            same slot_is (ap (next_slot g (home g x))
+            (end_is found.ends.scenario found.ends.lawful t run found.last found.ends.there))
+            (slot_in found.ends.scenario found.ends.lawful t run)),
       )
     ]
       where
         -- from the slot of the latest end to the send: each is no later than the next
         by_slot : (m a b c all : ℕ) → m ≡ a → a ≡ b → b ≡ c → c ≤ all → m ≤ all
-        by_slot m a b c all e f i h = omega (arith, e, f, i, h)
+        by_slot m a b c all m_is_a a_is_b b_is_c c_below = omega (arith, m_is_a, a_is_b, b_is_c, c_below)
 
   -- no run would send the item later than the latest time
   pub send_above : (s : Scenario) → IsScenario g s → (t : Times) → IsRun g order frozen s t →
@@ -232,11 +239,11 @@ module _ (g : Graph) (order : List ℕ) (frozen : List (Option ℕ)) (topologica
       -- there is a latest time, since the item goes in this scenario, and no run sends it later
       by : (o : Option ℕ) → latest ≡ o → IsLatestSend g order f (share_of g (home g x)) goes end x o →
           (m : ℕ) × (latest ≡ Some m) × (unfrozen_time g order s t x ≤ m)
-      by None e none = absurd (none (end_in t (producer g x)) s law (end_there s law t run on))
-      by (Some m) e r = (m, e, omega (arith, (here s law t run).value, slot_above m r s law t run on))
+      by None is_m none = absurd (none (end_in t (producer g x)) s law (end_there s law t run on))
+      by (Some m) is_m found = (m, is_m, omega (arith, (here s law t run).value, slot_above m found s law t run on))
 
   -- some scenario sends it no earlier than the latest time
   pub send_reached : (m : ℕ) → latest ≡ Some m →
       (s : Scenario) × IsScenario g s × (item_active g s.values (item_at g x) ≡ true) ×
       ((t : Times) → IsRun g order frozen s t → m ≤ unfrozen_time g order s t x)
-  send_reached m e = slot_reached m (subst (IsLatestSend g order f (share_of g (home g x)) goes end x) e top)
+  send_reached m is_m = slot_reached m (subst (IsLatestSend g order f (share_of g (home g x)) goes end x) is_m top)

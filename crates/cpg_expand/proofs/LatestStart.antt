@@ -124,50 +124,59 @@ module _ (g : Graph) (order : List ℕ) (guards : Guards) (frozen : List (Option
 
     -- the tree of when the node is ready at the earliest has the release everywhere
     ready_value : (x : Path (Option ℕ)) → IsOnPath top.ready.paths s x → x.1 ≡ Some (process_at g p).release
-    ready_value x on = (agrees_constant s (Some (process_at g p).release) g.faults top.ready
-        (λ y. y ≡ Some (process_at g p).release) refl top.at).value x on
+    ready_value path on = (agrees_constant s (Some (process_at g p).release) g.faults top.ready
+        (λ y. y ≡ Some (process_at g p).release) refl top.at).value path on
 
     -- if p is active, the chooser is true in this scenario
     acts_there : active g s.values p ≡ true → HasValueAt chooser.paths true s
-    acts_there on = let c = the_path g.faults chooser.paths of_chooser.each s (scenario_few g s law) in
-        (c.0, c.1, here.acts c.0 c.1 ∙ on)
+    acts_there on = let its_path = the_path g.faults chooser.paths of_chooser.each s (scenario_few g s law) in
+        (its_path.0, its_path.1, here.acts its_path.0 its_path.1 ∙ on)
 
     -- then the release is a time of that tree where p is active
     ready_there : active g s.values p ≡ true → HasWhere top.ready chooser (process_at g p).release s
     ready_there on =
-        let x = the_path g.faults top.ready.paths top.each s (scenario_few g s law) in
-        record { has = (x.0, x.1, ready_value x.0 x.1); there = acts_there on }
+        let its_path = the_path g.faults top.ready.paths top.each s (scenario_few g s law) in
+        record { has = (its_path.0, its_path.1, ready_value its_path.0 its_path.1); there = acts_there on }
 
     -- if the chooser is true in this scenario, p is active
     acts : HasValueAt chooser.paths true s → active g s.values p ≡ true
-    acts h = sym (here.acts h.0 h.1) ∙ h.2
+    acts chosen = sym (here.acts chosen.0 chosen.1) ∙ chosen.2
 
-    -- given: m, the latest of all that is found (`r`), and that p is active in s
-    module _ (m : ℕ) (r : IsLatestAt g order guards f (node_of g p) from (place order p) top.ready
+    -- given: m, the latest of all that is found (`found`), and that p is active in s
+    module _ (m : ℕ) (found : IsLatestAt g order guards f (node_of g p) from (place order p) top.ready
         (inputs g p) chooser m) (on : active g s.values p ≡ true) where
       -- the release is no later than m
       release_under : (process_at g p).release ≤ m
-      release_under = omega
-          (arith, r.releases.above (process_at g p).release s law (ready_there on), r.ends.from, r.hears.from, r.raised.from)
+      release_under = omega (
+        arith,
+        found.releases.above (process_at g p).release s law (ready_there on),
+        found.ends.from,
+        found.hears.from,
+        found.raised.from,
+      )
 
       -- if some process before p on its node ends at n or later, by its tree, n is no later than m
       end_under : (n : ℕ) → HasEndAt g order f from p s n → n ≤ m
       -- such an end is one of those that the latest end is the greatest of, and the later steps only raise it
-      end_under n h = omega (
+      end_under n ended = omega (
         arith,
-        h.late,
-        r.ends.above (time_later 0 (Some h.time)) s law
+        ended.late,
+        found.ends.above (time_later 0 (Some ended.time)) s law
             (record {
-              process = h.process;
-              below = h.between.within;
+              process = ended.process;
+              below = ended.between.within;
               there =
                   record {
-                    between = h.between;
-                    there = record { time = h.time; has = record { has = h.has; there = acts_there on }; is = refl };
+                    between = ended.between;
+                    there = record {
+                      time = ended.time;
+                      has = record { has = ended.has; there = acts_there on };
+                      is = refl;
+                    };
                   };
             }),
-        r.hears.from,
-        r.raised.from,
+        found.hears.from,
+        found.raised.from,
       )
 
       -- a condition is heard no later than m, whether by an end before p or by its own tree
@@ -175,84 +184,102 @@ module _ (g : Graph) (order : List ℕ) (guards : Guards) (frozen : List (Option
           HasEndAt g order f from p s (heard_there g t (node_of g p) c) ⊎ IsHeardAt g order guards f from p s t c →
           heard_there g t (node_of g p) c ≤ m
       -- an end is under the latest end; a tree's time is one of those that the latest hearing is the greatest of
-      heard_under c (inl h) = end_under (heard_there g t (node_of g p) c) h
-      heard_under c (inr h) = omega (
+      heard_under c (inl ended) = end_under (heard_there g t (node_of g p) c) ended
+      heard_under c (inr heard) = omega (
         arith,
-        h.is,
-        r.hears.above (time_later (heard_delay g (node_of g p) c) (Some h.time)) s law
+        heard.is,
+        found.hears.above (time_later (heard_delay g (node_of g p) c) (Some heard.time)) s law
             (record {
               condition = c;
-              below = h.below;
-              there = record { asked = h.asked; acts = acts_there on; time = h.time; has = h.has; is = refl };
+              below = heard.below;
+              there = record {
+                asked = heard.asked;
+                acts = acts_there on;
+                time = heard.time;
+                has = heard.has;
+                is = refl;
+              };
             }),
-        r.raised.from,
+        found.raised.from,
       )
 
       -- a live input is there no later than m, whether it is a message or comes from the node itself
       input_under : (e : ℕ) → Contains (inputs g p) e → live g s.values e ≡ true → (b : Bool) → is_message g e ≡ b →
           input_there g t e ≤ m
       -- a message's time is one of those that the latest input is the greatest of; any other input is there by an end
-      input_under e c lives true is =
-          let k = here.comes e c is lives in
-          let x = here.has_value e c is in
+      input_under e is_input lives true sent =
+          let came = here.comes e is_input sent lives in
+          let its_path = here.has_value e is_input sent in
           omega (
             arith,
-            k.2,
-            r.raised.above (time_later (input_delay g e) (Some k.0)) s law
+            came.2,
+            found.raised.above (time_later (input_delay g e) (Some came.0)) s law
                 (record {
                   edge = e;
-                  of = c;
+                  of = is_input;
                   there = record {
-                    message = is;
-                    time = k.0;
-                    has = record { has = (x.0, x.1, x.2 ∙ k.1); there = acts_there on };
+                    message = sent;
+                    time = came.0;
+                    has = record { has = (its_path.0, its_path.1, its_path.2 ∙ came.1); there = acts_there on };
                     is = refl;
                   };
                 }),
           )
-      input_under e c lives false is = end_under (input_there g t e) (here.own e c is lives)
+      input_under e is_input lives false not_sent = end_under (input_there g t e) (here.own e is_input not_sent lives)
 
       -- so nothing that the start waits for is later than m
       all_under : bounds ≤ m
       all_under = start_bounds_le g order s t p m release_under
-          (λ e c lives. input_under e c lives (is_message g e) refl) (λ q c a. end_under (end_in t q) (here.ends q c a))
-          (λ c k. heard_under c (here.hears c k))
+          (λ e among lives. input_under e among lives (is_message g e) refl)
+          (λ q among q_acts. end_under (end_in t q) (here.ends q among q_acts))
+          (λ c is_decided. heard_under c (here.hears c is_decided))
 
     -- an end of a process before p on its node is no later than the latest time that the start waits for
     ended_below : (m : ℕ) → HasEndedOf g order f chooser (node_of g p) from (place order p) (process_count g) m s →
         m ≤ bounds
-    ended_below m h =
-        omega (arith, h.there.there.is, here.ended h.process h.there.there.time h.there.between h.there.there.has.has)
+    ended_below m ended =
+        omega (
+          arith,
+          ended.there.there.is,
+          here.ended ended.process ended.there.there.time ended.there.between ended.there.there.has.has,
+        )
 
     -- nor is the time at which the node hears a condition that such a process or p tests
     hearing_below : (m : ℕ) →
         HasHeardOf g order guards f chooser (node_of g p) from (place order p + 1) (condition_count g) m s → m ≤ bounds
-    hearing_below m h = omega (arith, h.there.is, here.heard h.condition h.there.time h.there.asked h.there.has)
+    hearing_below m heard = omega (
+      arith,
+      heard.there.is,
+      here.heard heard.condition heard.there.time heard.there.asked heard.there.has,
+    )
 
     -- nor is the time at which an input from another node is there
     input_below : (m : ℕ) → HasInputOf g f chooser (inputs g p) m s → m ≤ bounds
-    input_below m h =
-        let e = h.edge in
-        let i = h.there in
-        let is : get_or t.times (message_item g e) None ≡ Some i.time =
-        sym (here.valued e h.of i.message i.has.has.0 i.has.has.1) ∙ i.has.has.2 in
-        let lives = here.lives e i.time h.of i.message is in
-        let r = here.comes e h.of i.message lives in
-        let same = some_same r.0 i.time (sym r.1 ∙ is) in
+    input_below m by_input =
+        let e = by_input.edge in
+        let its_input = by_input.there in
+        let has_its_time : get_or t.times (message_item g e) None ≡ Some its_input.time =
+        sym (here.valued e by_input.of its_input.message its_input.has.has.0 its_input.has.has.1)
+        ∙ its_input.has.has.2 in
+        let lives = here.lives e its_input.time by_input.of its_input.message has_its_time in
+        let came = here.comes e by_input.of its_input.message lives in
+        let same = some_same came.0 its_input.time (sym came.1 ∙ has_its_time) in
         let bound = greatest_above (input_bounds g s t p) (input_there g t e)
         (Contains-map (input_there g t) (filter (live g s.values) (inputs g p)) e
-        (Contains-filter (live g s.values) (inputs g p) e lives h.of)) in
-        under m (input_there g t e) (time_later (input_delay g e) (Some r.0))
-        (time_later (input_delay g e) (Some i.time)) (greatest (input_bounds g s t p)) bounds i.is r.2
+        (Contains-filter (live g s.values) (inputs g p) e lives by_input.of)) in
+        under m (input_there g t e) (time_later (input_delay g e) (Some came.0))
+        (time_later (input_delay g e) (Some its_input.time)) (greatest (input_bounds g s t p)) bounds its_input.is
+        came.2
         (ap (λ n. time_later (input_delay g e) (Some n)) same) bound (inputs_in g order topological s t p)
       where
         -- from the input's time to the bounds: each is no later than the next
         under : (m there a b last all : ℕ) → m ≡ b → there ≡ a → a ≡ b → there ≤ last → last ≤ all → m ≤ all
-        under m there a b last all e i j k v = omega (arith, e, i, j, k, v)
+        under m there a b last all m_is_b there_is_a a_is_b there_below last_below =
+            omega (arith, m_is_b, there_is_a, a_is_b, there_below, last_below)
 
     -- what is within the bounds is no later than the start if it weren't frozen
     by_bounds : (m : ℕ) → m ≤ bounds → m ≤ unfrozen_time g order s t p
-    by_bounds m h = omega (arith, h, here.value)
+    by_bounds m at_most = omega (arith, at_most, here.value)
 
   -- ---- in all
 
@@ -267,19 +294,22 @@ module _ (g : Graph) (order : List ℕ) (guards : Guards) (frozen : List (Option
           IsLatestOf g order guards f (node_of g p) from (place order p) top.ready (inputs g p) chooser o →
           (m : ℕ) × (latest ≡ Some m) ×
           (unfrozen_time g order s t p ≤ m)
-      by None e none = absurd (none (process_at g p).release s law (ready_there s law t run on))
-      by (Some m) e r = (m, e, omega (arith, (here s law t run).value, all_under s law t run m r on))
+      by None is_m none = absurd (none (process_at g p).release s law (ready_there s law t run on))
+      by (Some m) is_m latest_at =
+          (m, is_m, omega (arith, (here s law t run).value, all_under s law t run m latest_at on))
 
   -- some scenario starts it no earlier than the latest time
   pub latest_reached : (m : ℕ) → latest ≡ Some m →
       (s : Scenario) × IsScenario g s × (active g s.values p ≡ true) ×
       ((t : Times) → IsRun g order frozen s t → m ≤ unfrozen_time g order s t p)
-  latest_reached m e = by
-      (subst (IsLatestOf g order guards f (node_of g p) from (place order p) top.ready (inputs g p) chooser) e top.is)
+  latest_reached m is_m = by
+      (subst (IsLatestOf g order guards f (node_of g p) from (place order p) top.ready (inputs g p) chooser) is_m
+      top.is)
     where
       -- if the chooser is true in a scenario, p is active there
       active_there : (s : Scenario) → IsScenario g s → HasValueAt chooser.paths true s → active g s.values p ≡ true
-      active_there s law h = let r = a_run g order frozen s topological in acts s law r.0 r.1 h
+      active_there s law chosen = let its_run = a_run g order frozen s topological in
+          acts s law its_run.0 its_run.1 chosen
 
       -- if p is active in scenario s, and its start there waits until n or later, m, which is n, is reached there
       found : (m n : ℕ) (s : Scenario) → IsScenario g s → HasValueAt chooser.paths true s → m ≡ n →
@@ -293,23 +323,29 @@ module _ (g : Graph) (order : List ℕ) (guards : Guards) (frozen : List (Option
       by : IsLatestAt g order guards f (node_of g p) from (place order p) top.ready (inputs g p) chooser m →
           (s : Scenario) × IsScenario g s × (active g s.values p ≡ true) ×
           ((t : Times) → IsRun g order frozen s t → m ≤ unfrozen_time g order s t p)
-      by r = elim r.raised.found [
+      by latest_at = elim latest_at.raised.found [
         -- an input
-        | inr h ↦ found m m h.0 h.1 h.2.there.has.there refl (λ t run. input_below h.0 h.1 t run m h.2)
-        | inl as_heard ↦ elim r.hears.found [
+        | inr found_in ↦ found m m found_in.0 found_in.1 found_in.2.there.has.there refl
+            (λ t run. input_below found_in.0 found_in.1 t run m found_in.2)
+        | inl as_heard ↦ elim latest_at.hears.found [
           -- a condition that is heard
-          | inr h ↦ found m r.heard h.0 h.1 h.2.there.acts as_heard (λ t run. hearing_below h.0 h.1 t run r.heard h.2)
-          | inl as_ended ↦ elim r.ends.found [
+          | inr found_in ↦ found m latest_at.heard found_in.0 found_in.1 found_in.2.there.acts as_heard
+              (λ t run. hearing_below found_in.0 found_in.1 t run latest_at.heard found_in.2)
+          | inl as_ended ↦ elim latest_at.ends.found [
             -- the end of a process
-            | inr h ↦ found m r.ended h.0 h.1 h.2.there.there.has.there (as_heard ∙ as_ended)
-                (λ t run. ended_below h.0 h.1 t run r.ended h.2)
+            | inr found_in ↦ found m latest_at.ended found_in.0 found_in.1 found_in.2.there.there.has.there
+                (as_heard ∙ as_ended)
+                (λ t run. ended_below found_in.0 found_in.1 t run latest_at.ended found_in.2)
             -- when the node is ready, or the release
             | inl as_first ↦
-                found m r.released r.releases.scenario r.releases.lawful r.releases.there.there (as_heard ∙ as_ended ∙ as_first)
+                found m latest_at.released latest_at.releases.scenario latest_at.releases.lawful
+                latest_at.releases.there.there (as_heard ∙ as_ended ∙ as_first)
                 (λ t run.
-                let is = some_same r.released (process_at g p).release (sym r.releases.there.has.2
-                ∙ ready_value r.releases.scenario r.releases.lawful t run r.releases.there.has.0 r.releases.there.has.1) in
-                omega (arith, is, release_in g order topological r.releases.scenario t p))
+                let is_release = some_same latest_at.released (process_at g p).release
+                (sym latest_at.releases.there.has.2
+                ∙ ready_value latest_at.releases.scenario latest_at.releases.lawful t run latest_at.releases.there.has.0
+                latest_at.releases.there.has.1) in
+                omega (arith, is_release, release_in g order topological latest_at.releases.scenario t p))
           ]
         ]
       ]

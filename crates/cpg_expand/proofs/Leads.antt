@@ -20,8 +20,8 @@ use Rattle.cpg_expand.specs.Guarded.{IsByBelow, LeadsBelow}
 
 -- if all the edges are below n, so is the first one, which the activation names
 first_below : (n : ℕ) (es : List ℕ) → ((e : ℕ) → Contains es e → e < n) → IsByBelow n (by_first es)
-first_below n [] h = tt
-first_below n (e ∷ es) h = h e (Contains-first e es)
+first_below n [] below = tt
+first_below n (e ∷ es) below = below e (Contains-first e es)
 
 -- an activation that waits for all inputs, or is inactive, names no edge, so none that isn't below n
 all_below : (n : ℕ) (b : Bool) → IsByBelow n (if b then Plain else Inactive)
@@ -31,17 +31,17 @@ all_below n false = tt
 -- if all the inputs are below n, so is the edge that the activation names, if it names one
 by_below : (n : ℕ) (join : Bool) (es : List ℕ) (live : ℕ → Bool) → ((e : ℕ) → Contains es e → e < n) →
     IsByBelow n (activation_by join es live)
-by_below n join [] live h = tt
-by_below n true (e ∷ es) live h =
-    first_below n (filter live (e ∷ es)) (λ d c. h d (Contains-filter_parts live (e ∷ es) d c).0)
-by_below n false (e ∷ es) live h = all_below n (list_all live (e ∷ es))
+by_below n join [] live below = tt
+by_below n true (e ∷ es) live below =
+    first_below n (filter live (e ∷ es)) (λ d listed. below d (Contains-filter_parts live (e ∷ es) d listed).0)
+by_below n false (e ∷ es) live below = all_below n (list_all live (e ∷ es))
 
 -- if the activation of a process in an outcome names an edge, that is one of the graph
 activation_below : (g : Graph) (order : List ℕ) → IsTopological g order → (o : List Bool) (p : ℕ) →
     p < process_count g →
     IsByBelow (edge_count g) (activation g o p)
-activation_below g order topological o p l =
-    subst (IsByBelow (edge_count g)) (sym (activation_is g order topological o p (omega (arith, l))))
+activation_below g order topological o p below =
+    subst (IsByBelow (edge_count g)) (sym (activation_is g order topological o p (omega (arith, below))))
     (by_below (edge_count g) (process_at g p).join (inputs g p) (live g o) (λ e c. (inputs_parts g p e c).0))
 
 -- ---- each leaf is come to
@@ -63,14 +63,14 @@ module _ (g : Graph) (order : List ℕ) (n : ℕ) where
       LeadsBelow n guard
   -- by induction on the guard: each side is taken for the outcome in which the tested condition has the value that
   -- leads there
-  leads_from k (Leaf a) ordered o long h = h o long (λ d l. refl)
-  leads_from k (Test c off on) ordered o long h = (
+  leads_from k (Leaf a) ordered o long leads = leads o long (λ d listed. refl)
+  leads_from k (Test c off on) ordered o long leads = (
     leads_from (place order (process_of g c) + 1) off ordered.2 (set o c false) (length-set o c false ∙ long)
         (λ other far same. subst (λ (b : Bool). IsByBelow n (if b then outcome_at on other else outcome_at off other))
-        (here false other same) (h other far (earlier false other same))),
+        (here false other same) (leads other far (earlier false other same))),
     leads_from (place order (process_of g c) + 1) on ordered.3 (set o c true) (length-set o c true ∙ long)
         (λ other far same. subst (λ (b : Bool). IsByBelow n (if b then outcome_at on other else outcome_at off other))
-        (here true other same) (h other far (earlier true other same))),
+        (here true other same) (leads other far (earlier true other same))),
   )
     where
       -- an outcome that agrees with one in which c is set has this value of c
@@ -81,14 +81,15 @@ module _ (g : Graph) (order : List ℕ) (n : ℕ) where
       -- and it agrees with the one before c's place, since the test there is of an earlier condition
       earlier : (b : Bool) (other : List Bool) → SameBefore (place order (process_of g c) + 1) (set o c b) other →
           SameBefore k o other
-      earlier b other same d l = same d (omega (arith, l, ordered.1)) ∙ get_or-set_other o c d b false
-          (λ e. absurd (let at = ap (λ q. place order (process_of g q)) e in omega (arith, l, ordered.1, at)))
+      earlier b other same d before = same d (omega (arith, before, ordered.1)) ∙ get_or-set_other o c d b false
+          (λ same_q. absurd (let at = ap (λ q. place order (process_of g q)) same_q in
+          omega (arith, before, ordered.1, at)))
 
 -- each edge that a leaf of a process's guard names is one of the graph
 pub leads_below : (g : Graph) (order : List ℕ) → IsTopological g order → (p : ℕ) → p < process_count g →
     (guard : Guard) → IsGuardOf g order p guard →
     LeadsBelow (edge_count g) guard
-leads_below g order topological p l guard is = leads_from g order (edge_count g) 0 guard is.ordered
+leads_below g order topological p below guard is = leads_from g order (edge_count g) 0 guard is.ordered
     (replicate (condition_count g) false) (length-replicate {A = Bool} (condition_count g) false)
     (λ other long same.
-    subst (IsByBelow (edge_count g)) (sym (is.is other long)) (activation_below g order topological other p l))
+    subst (IsByBelow (edge_count g)) (sym (is.is other long)) (activation_below g order topological other p below))

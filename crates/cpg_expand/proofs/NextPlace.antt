@@ -44,7 +44,7 @@ module _ (g : Graph) (order : List ℕ) (topological : IsTopological g order) (i
 
   -- there is such a place in the order
   inside : i < length order
-  inside = let k = place-lt order p stands in omega (arith, at, k)
+  inside = let below = place-lt order p stands in omega (arith, at, below)
 
   -- p is the process at that place
   here : p ≡ get_or order i 0
@@ -52,9 +52,10 @@ module _ (g : Graph) (order : List ℕ) (topological : IsTopological g order) (i
 
   -- a process of the node before a place is before the next place too
   pub kept_on : (node q : ℕ) → Contains (on_node g order i node) q → Contains (on_node g order (i + 1) node) q
-  kept_on node q j =
-      let r = Contains-filter_parts (λ (u : ℕ). node_of g u == node) (take i order) q j in
-      Contains-filter (λ (u : ℕ). node_of g u == node) (take (i + 1) order) q r.1 (in_next order i q inside (inl r.0))
+  kept_on node q on_it =
+      let parts = Contains-filter_parts (λ (u : ℕ). node_of g u == node) (take i order) q on_it in
+      Contains-filter (λ (u : ℕ). node_of g u == node) (take (i + 1) order) q parts.1
+      (in_next order i q inside (inl parts.0))
 
   -- the process at the place is before the next one, on its own node
   pub here_on : Contains (on_node g order (i + 1) (node_of g p)) p
@@ -70,12 +71,14 @@ module _ (g : Graph) (order : List ℕ) (topological : IsTopological g order) (i
     -- what p and those before it on its node pass on is what the node carries on at the next place
     then_on : (x : Literal) → Contains (flat_map (passed g rows s) (before_on_node g order p) ++ passed g rows s p) x →
         Contains (flat_map (passed g rows s) (on_node g order (i + 1) (node_of g p))) x
-    then_on x j =
-        elim (Contains-append_cases (flat_map (passed g rows s) (before_on_node g order p)) (passed g rows s p) x j) [
-          | inl k ↦ let r = Contains-flat_map_parts (passed g rows s) (before_on_node g order p) x k in
-              Contains-flat_map (passed g rows s) (on_node g order (i + 1) (node_of g p)) r.0 x
-              (kept_on (node_of g p) r.0 (subst (λ qs. Contains qs r.0) same_before r.1)) r.2
-          | inr k ↦ Contains-flat_map (passed g rows s) (on_node g order (i + 1) (node_of g p)) p x here_on k
+    then_on x listed =
+        elim (Contains-append_cases (flat_map (passed g rows s) (before_on_node g order p))
+        (passed g rows s p) x listed) [
+          | inl in_before ↦ let source =
+              Contains-flat_map_parts (passed g rows s) (before_on_node g order p) x in_before in
+              Contains-flat_map (passed g rows s) (on_node g order (i + 1) (node_of g p)) source.0 x
+              (kept_on (node_of g p) source.0 (subst (λ qs. Contains qs source.0) same_before source.1)) source.2
+          | inr by_p ↦ Contains-flat_map (passed g rows s) (on_node g order (i + 1) (node_of g p)) p x here_on by_p
         ]
 
     -- given: the scenario's run under some frozen times
@@ -92,25 +95,25 @@ module _ (g : Graph) (order : List ℕ) (topological : IsTopological g order) (i
           IsReadyLine g order rows s t (i + 1) (node_of g p) tree
       -- by whether p is active (`by`); its path says no more than what the processes up to p carry on
       ready_next r h ready heard ended tree has_value = record {
-        time = v;
+        time = ready_time;
         is = by (active g s.values p) refl;
         has_value = agrees_weaker s tree (flat_map (passed g rows s) (before_on_node g order p) ++ passed g rows s p)
-            (flat_map (passed g rows s) (on_node g order (i + 1) (node_of g p))) (λ z. z ≡ v)
-            (λ z. z ≡ v) then_on (λ z e. e) has_value;
+            (flat_map (passed g rows s) (on_node g order (i + 1) (node_of g p))) (λ z. z ≡ ready_time)
+            (λ z. z ≡ ready_time) then_on (λ z equal. equal) has_value;
       }
         where
           -- when the node is ready then: at p's end if it is active, and else once it has heard what decides p
-          v : ℕ
-          v = if active g s.values p then end_in t p else max r h
+          ready_time : ℕ
+          ready_time = if active g s.values p then end_in t p else max r h
 
           -- by whether p is active
-          by : (b : Bool) → active g s.values p ≡ b → IsReady g order s t (i + 1) (node_of g p) v
-          by true e = ready_active g order topological frozen s t run i p l at r h v e
-              (ap (λ (b : Bool). if b then end_in t p else max r h) e)
-              (let is = ap (λ (b : Bool). if b then end_in t p else max r h) e in
-              omega (arith, is, ended e)) ready heard
-          by false e = ready_idle g order topological frozen s t run i p l at r h v e
-              (ap (λ (b : Bool). if b then end_in t p else max r h) e) ready heard
+          by : (b : Bool) → active g s.values p ≡ b → IsReady g order s t (i + 1) (node_of g p) ready_time
+          by true acts = ready_active g order topological frozen s t run i p l at r h ready_time acts
+              (ap (λ (b : Bool). if b then end_in t p else max r h) acts)
+              (let is_end = ap (λ (b : Bool). if b then end_in t p else max r h) acts in
+              omega (arith, is_end, ended acts)) ready heard
+          by false idle = ready_idle g order topological frozen s t run i p l at r h ready_time idle
+              (ap (λ (b : Bool). if b then end_in t p else max r h) idle) ready heard
 
       -- another node is ready when it was before
       pub ready_elsewhere : (node : ℕ) → node ≢ node_of g p → (tree : TreeState ℕ) →
@@ -122,9 +125,10 @@ module _ (g : Graph) (order : List ℕ) (topological : IsTopological g order) (i
         is = ready_other g order topological frozen s t run i p l at node line.time other line.is;
         has_value = agrees_weaker s tree (flat_map (passed g rows s) (on_node g order i node))
             (flat_map (passed g rows s) (on_node g order (i + 1) node)) (λ z. z ≡ line.time) (λ z. z ≡ line.time)
-            (λ x j. let r = Contains-flat_map_parts (passed g rows s) (on_node g order i node) x j in
-            Contains-flat_map (passed g rows s) (on_node g order (i + 1) node) r.0 x (kept_on node r.0 r.1) r.2)
-            (λ z e. e) line.has_value;
+            (λ x listed. let source = Contains-flat_map_parts (passed g rows s) (on_node g order i node) x listed in
+            Contains-flat_map (passed g rows s) (on_node g order (i + 1) node) source.0 x
+            (kept_on node source.0 source.1) source.2)
+            (λ z equal. equal) line.has_value;
       }
 
 -- ---- frozen times
@@ -142,9 +146,9 @@ module _ (g : Graph) (order : List ℕ) (topological : IsTopological g order) (w
   pub settled_idle : is_frozen g x ≡ false → AreSettledOf g order More frozen
   settled_idle thawed = record {
     count = settled.count;
-    each = λ y h is done. elim (only y done) [
-      | inl d ↦ settled.each y h is d
-      | inr e ↦ absurd (apart (sym is ∙ ap (is_frozen g) e ∙ thawed))
+    each = λ y below is done. elim (only y done) [
+      | inl was_done ↦ settled.each y below is was_done
+      | inr is_x ↦ absurd (apart (sym is ∙ ap (is_frozen g) is_x ∙ thawed))
     ];
     others = λ y no. settled.others y (λ h is done. no h is (grows y done));
     low = settled.low;
@@ -152,7 +156,7 @@ module _ (g : Graph) (order : List ℕ) (topological : IsTopological g order) (w
     where
       -- true isn't false
       apart : true ≡ false → ⊥
-      apart e = cc
+      apart equal = cc
 
   -- x comes after all items that are done, so it isn't one of them
   not_done : Done x → ⊥
@@ -169,32 +173,36 @@ module _ (g : Graph) (order : List ℕ) (topological : IsTopological g order) (w
     -- there is an entry for each item
     count = count ∙ settled.count;
     -- x has the time that is set, and what was done keeps its own
-    each = λ y h f done. elim (cases_eq y x) [
-      | inl e ↦ subst (IsFrozenTime g order more) (sym e) (frozen_time_set g order topological frozen more x l
-          (λ z w m. sym (same z (λ e. omega (arith, ap (moment g order) e)))) is)
+    each = λ y below frozen_y done. elim (cases_eq y x) [
+      | inl is_same ↦ subst (IsFrozenTime g order more) (sym is_same)
+          (frozen_time_set g order topological frozen more x l
+          (λ z w sooner. sym (same z (λ is_later. omega (arith, ap (moment g order) is_later)))) is)
       | inr apart ↦ elim (only y done) [
-        | inr e ↦ absurd (apart e)
-        | inl d ↦ frozen_time_kept g order topological frozen more y h
-            (λ z w m. sym (same z (λ e. omega (arith, ap (moment g order) e, later y h d)))) (sym (same y apart))
-            (settled.each y h f d)
+        | inr is_x ↦ absurd (apart is_x)
+        | inl was_done ↦ frozen_time_kept g order topological frozen more y below
+            (λ z w sooner. sym (same z
+            (λ is_later. omega (arith, ap (moment g order) is_later, later y below was_done)))) (sym (same y apart))
+            (settled.each y below frozen_y was_done)
       ]
     ];
     -- no other item gets a time
     others = λ y no. same y
-        (λ e. no (subst (λ z. z < item_count g) (sym e) l) (ap (is_frozen g) e ∙ is_one) (subst More (sym e) one))
+        (λ is_x. no (subst (λ z. z < item_count g) (sym is_x) l) (ap (is_frozen g) is_x ∙ is_one)
+        (subst More (sym is_x) one))
         ∙ settled.others y (λ h f done. no h f (grows y done));
     -- each time is low: x's as an unfrozen time of a run, all others as before
     low = record {
-      low = λ y time w e. elim (cases_eq y x) [
+      low = λ y time w has_time. elim (cases_eq y x) [
         | inl at ↦
-            let r = is.reached time (ap (λ z. get_or more z None) (sym at) ∙ e) in
+            let reached = is.reached time (ap (λ z. get_or more z None) (sym at) ∙ has_time) in
             subst (λ z. time ≤ bound 0 (moment g order z) + 32000000000) (sym at)
             (omega (
               arith,
-              r.has,
-              unfrozen_low 0 g order frozen r.scenario r.times within topological r.lawful settled.low r.run x l,
+              reached.has,
+              unfrozen_low 0 g order frozen reached.scenario reached.times within topological reached.lawful settled.low
+                  reached.run x l,
             ))
-        | inr apart ↦ settled.low.low y time w (sym (same y apart) ∙ e)
+        | inr apart ↦ settled.low.low y time w (sym (same y apart) ∙ has_time)
       ];
     };
   }

@@ -21,8 +21,8 @@ any_leaves (Test c off on) = (any_leaves off, any_leaves on)
 -- if a guard leads to inputs below n, each of its leaves does
 pub leads_leaves : (n : ℕ) (guard : Guard) → LeadsBelow n guard → AreLeaves (λ a. IsByBelow n a) guard
 -- by induction on the guard
-leads_leaves n (Leaf a) h = h
-leads_leaves n (Test c off on) h = (leads_leaves n off h.0, leads_leaves n on h.1)
+leads_leaves n (Leaf a) leads = leads
+leads_leaves n (Test c off on) leads = (leads_leaves n off leads.0, leads_leaves n on leads.1)
 
 -- `T` is the type of the trees' values
 module _ {T : Type 0} where
@@ -33,7 +33,7 @@ module _ {T : Type 0} where
 
   -- if `new` is `old` with one more guard at its end, it has the guards of `old` at their places
   pub kept_by : (old new : List (KnownGuard T)) (k : KnownGuard T) → new ≡ old ++ (k ∷ []) → ArePlacesKept old new
-  kept_by old new k e i g at = subst (λ (xs : List (KnownGuard T)). IsAt xs i g) (sym e) (
+  kept_by old new k pushed i g at = subst (λ (xs : List (KnownGuard T)). IsAt xs i g) (sym pushed) (
     omega (arith, at.0, length-append old (k ∷ [])),
     λ d. ap (λ (x : KnownGuard T). x.guard.now) (get_or_append_left old (k ∷ []) d i at.0) ∙ at.1 d,
   )
@@ -43,15 +43,15 @@ module _ {T : Type 0} where
     -- a source that is right for a guard is within the list, or a tree of its own
     pub found_there : (known : List (KnownGuard T)) (g : Guard) (found : Source T) → IsFound made fits known g found →
         IsThere known found
-    found_there known g (At i) h = h.0
-    found_there known g (Alone t) h = tt
+    found_there known g (At i) is_found = is_found.0
+    found_there known g (Alone t) is_found = tt
 
     -- a source stays right if the list keeps its guards at their places
     pub found_still : (old new : List (KnownGuard T)) (g : Guard) (found : Source T) → ArePlacesKept old new →
         IsFound made fits old g found →
         IsFound made fits new g found
-    found_still old new g (At i) kept h = kept i g h
-    found_still old new g (Alone t) kept h = h
+    found_still old new g (At i) kept is_found = kept i g is_found
+    found_still old new g (Alone t) kept is_found = is_found
 
     -- the tree of a guard that is kept at a place is made and fits the guard
     known_at : (known : List (KnownGuard T)) (i : ℕ) (g : Guard) (r : TreeState T) → AreKnown made fits known →
@@ -70,9 +70,10 @@ module _ {T : Type 0} where
         IsTreeOf known found r
         → made r ×
         fits g r
-    found_has_value [] g (At i) r all h is = absurd (omega (arith, h.0))
-    found_has_value (k ∷ known) g (At i) r all h is = known_at (k ∷ known) i g r all h is k
-    found_has_value known g (Alone t) r all h is = (subst made (sym is) h.0, subst (fits g) (sym is) h.1)
+    found_has_value [] g (At i) r all is_found is = absurd (omega (arith, is_found.0))
+    found_has_value (k ∷ known) g (At i) r all is_found is = known_at (k ∷ known) i g r all is_found is k
+    found_has_value known g (Alone t) r all is_found is =
+        (subst made (sym is) is_found.0, subst (fits g) (sym is) is_found.1)
 
     -- a list of one tree that is made and fits its guard has only such trees
     one_known : (k : KnownGuard T) → made k.tree → fits k.guard.now k.tree → AreKnown made fits (k ∷ [])
@@ -85,40 +86,41 @@ module _ {T : Type 0} where
         AreKnown made fits new
     -- by where it is put: a new place holds the tree, with a guard equal to the given one; kept alone, it changes no
     -- place
-    added_known old new g tree (At i) all m t h =
-        subst (AreKnown made fits) (sym h.2)
-        (All-append (λ (x : KnownGuard T). made x.tree × fits x.guard.now x.tree) old (h.1 ∷ []) all
-        (one_known h.1 (subst made (sym h.4) m)
-        (subst (fits h.1.guard.now) (sym h.4) (subst (λ (x : Guard). fits x tree) (sym h.3) t))))
-    added_known old new g tree (Alone t) all m is h = subst (AreKnown made fits) (sym h.0) all
+    added_known old new g tree (At i) all is_made fits_it added =
+        subst (AreKnown made fits) (sym added.2)
+        (All-append (λ (x : KnownGuard T). made x.tree × fits x.guard.now x.tree) old (added.1 ∷ []) all
+        (one_known added.1 (subst made (sym added.4) is_made)
+        (subst (fits added.1.guard.now) (sym added.4) (subst (λ (x : Guard). fits x tree) (sym added.3) fits_it))))
+    added_known old new g tree (Alone t) all is_made is added = subst (AreKnown made fits) (sym added.0) all
 
     -- adding a guard with its tree keeps all guards before it at their places
     pub added_kept : (old new : List (KnownGuard T)) (g : Guard) (tree : TreeState T) (found : Source T) →
         IsGuardAdded old new g tree found → ArePlacesKept old new
-    added_kept old new g tree (At i) h = kept_by old new h.1 h.2
-    added_kept old new g tree (Alone t) h =
-        subst (λ (xs : List (KnownGuard T)). ArePlacesKept old xs) (sym h.0) (λ i g at. at)
+    added_kept old new g tree (At i) added = kept_by old new added.1 added.2
+    added_kept old new g tree (Alone t) added =
+        subst (λ (xs : List (KnownGuard T)). ArePlacesKept old xs) (sym added.0) (λ i g at. at)
 
     -- the source that a tree is added at is right for its guard
     pub added_found : (old new : List (KnownGuard T)) (g : Guard) (tree : TreeState T) (found : Source T) → made tree →
         fits g tree → IsGuardAdded old new g tree found →
         IsFound made fits new g found
     -- at a place, that is the new one behind the old ones; alone, it is the tree itself, which is made and fits
-    added_found old new g tree (At i) m t h =
-        subst (λ (xs : List (KnownGuard T)). IsAt xs i g) (sym h.2)
-        (subst (λ (n : ℕ). IsAt (old ++ (h.1 ∷ [])) n g) (sym h.0) (
-          omega (arith, length-append old (h.1 ∷ [])),
-          λ d. ap (λ (x : KnownGuard T). x.guard.now) (get_or-append_seam old h.1 [] d) ∙ h.3,
+    added_found old new g tree (At i) is_made fits_it added =
+        subst (λ (xs : List (KnownGuard T)). IsAt xs i g) (sym added.2)
+        (subst (λ (n : ℕ). IsAt (old ++ (added.1 ∷ [])) n g) (sym added.0) (
+          omega (arith, length-append old (added.1 ∷ [])),
+          λ d. ap (λ (x : KnownGuard T). x.guard.now) (get_or-append_seam old added.1 [] d) ∙ added.3,
         ))
-    added_found old new g tree (Alone t) m is h = (subst made (sym h.1) m, subst (fits g) (sym h.1) is)
+    added_found old new g tree (Alone t) is_made is added =
+        (subst made (sym added.1) is_made, subst (fits g) (sym added.1) is)
 
     -- given: a tree that was found before more trees were added
     module _ (known later slice : List (KnownGuard T)) (kept : ArePlacesKept known later) (is : slice ≡ later)
-        (g : Guard) (found : Source T) (h : IsFound made fits known g found) where
+        (g : Guard) (found : Source T) (is_found : IsFound made fits known g found) where
       -- the tree is still found in the list with more trees
       still : IsFound made fits slice g found
       still = subst (λ (xs : List (KnownGuard T)). IsFound made fits xs g found) (sym is)
-          (found_still known later g found kept h)
+          (found_still known later g found kept is_found)
 
       -- the source is within the longer list
       pub still_there : IsThere slice found

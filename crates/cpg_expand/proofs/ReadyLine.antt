@@ -51,7 +51,7 @@ module _ (g : Graph) (order : List ℕ) (topological : IsTopological g order) (r
       HasValueFrom s (carried_at_end g order rows s p) (get_or t.ends p None) end → HasValueFrom s wait_says waited wait
       → HasValueFrom s then_says (if active g s.values p then end_in t p else waited) tree
   ready_line chooser end wait tree waited actives readies ends waits = agrees_weaker s tree
-      (values_known s (way guard s.values) ++ time_says) then_says (λ z. z ≡ v) (λ z. z ≡ v) within (λ z e. e)
+      (values_known s (way guard s.values) ++ time_says) then_says (λ z. z ≡ v) (λ z. z ≡ v) within (λ z equal. equal)
       (readies s few (active g s.values p) (values_known s (way guard s.values)) time_says
       (get_or t.ends p None) waited v chosen by_end by_wait)
     where
@@ -71,36 +71,38 @@ module _ (g : Graph) (order : List ℕ) (topological : IsTopological g order) (r
       -- if p is active, its end decides; ends are small, so `time_later` gives them exactly
       by_end : active g s.values p ≡ true →
           HasValueFrom s time_says (get_or t.ends p None) end × (v ≡ time_later 0 (get_or t.ends p None))
-      by_end e = (
+      by_end acts = (
         subst (λ (b : Bool). HasValueFrom s (if b then carried_at_end g order rows s p else wait_says)
-            (get_or t.ends p None) end) (sym e) ends,
-        ap (λ (b : Bool). if b then end_in t p else waited) e
+            (get_or t.ends p None) end) (sym acts) ends,
+        ap (λ (b : Bool). if b then end_in t p else waited) acts
             ∙ (let exact = later_exact (get_or t.ends p None) 0 (small.ends p) (omega arith) in omega (arith, exact)),
       )
 
       -- if p is inactive, the wait decides
       by_wait : active g s.values p ≡ false → HasValueFrom s time_says waited wait × (v ≡ waited)
-      by_wait e = (
+      by_wait idle = (
         subst (λ (b : Bool). HasValueFrom s (if b then carried_at_end g order rows s p else wait_says) waited wait)
-            (sym e) waits,
-        ap (λ (b : Bool). if b then end_in t p else waited) e,
+            (sym idle) waits,
+        ap (λ (b : Bool). if b then end_in t p else waited) idle,
       )
 
       -- the literals of the end and those of the wait are carried on by the node
       of_time_says : (b : Bool) → active g s.values p ≡ b → (x : Literal) →
           Contains (if b then carried_at_end g order rows s p else wait_says) x →
           Contains then_says x
-      of_time_says true e x j = elim (end_parts g order topological rows s p e x j) [
-        | inl i ↦ Contains-append_left (flat_map (passed g rows s) (before_on_node g order p)) (passed g rows s p) x i
-        | inr i ↦ Contains-append_right (flat_map (passed g rows s) (before_on_node g order p)) (passed g rows s p) x i
+      of_time_says true is_b x listed = elim (end_parts g order topological rows s p is_b x listed) [
+        | inl passed_before ↦ Contains-append_left (flat_map (passed g rows s) (before_on_node g order p))
+            (passed g rows s p) x passed_before
+        | inr passed_on ↦ Contains-append_right (flat_map (passed g rows s) (before_on_node g order p))
+            (passed g rows s p) x passed_on
       ]
-      of_time_says false e x j = ready_carried g order topological rows s p x (inr j)
+      of_time_says false is_b x listed = ready_carried g order topological rows s p x (inr listed)
 
       -- all that the tree says is carried on by the node
       within : (x : Literal) → Contains (values_known s (way guard s.values) ++ time_says) x → Contains then_says x
-      within x j = elim (Contains-append_cases (values_known s (way guard s.values)) time_says x j) [
-        | inl i ↦ let r = Contains-map_parts (value_known s) (way guard s.values) x i in
-            ready_carried g order topological rows s p x (inl (subst (Contains (decided g s p)) r.2
-            (Contains-map (value_known s) (deciding g s.values p) r.0 (on_way r.0 r.1))))
-        | inr i ↦ of_time_says (active g s.values p) refl x i
+      within x listed = elim (Contains-append_cases (values_known s (way guard s.values)) time_says x listed) [
+        | inl in_first ↦ let source = Contains-map_parts (value_known s) (way guard s.values) x in_first in
+            ready_carried g order topological rows s p x (inl (subst (Contains (decided g s p)) source.2
+            (Contains-map (value_known s) (deciding g s.values p) source.0 (on_way source.0 source.1))))
+        | inr in_second ↦ of_time_says (active g s.values p) refl x in_second
       ]

@@ -43,19 +43,19 @@ pub none_waits : (g : Graph) (order : List ℕ) (node at k : ℕ) (b : Bool) →
     node_of g q ≡ node → at < place order q → is_frozen g q ≡ false → ⊥
 none_waits g order node at k b so_far is off q below there behind thawed = elim (cases_lt q k) [
   | inl less ↦ so_far q less there behind thawed
-  | inr more ↦ by (let e : q ≡ k = omega (arith, below, more) in e)
+  | inr more ↦ by (let is_k : q ≡ k = omega (arith, below, more) in is_k)
 ]
   where
     -- true isn't false
     apart : true ≡ false → ⊥
-    apart e = cc
+    apart equal = cc
 
     -- the process that waits isn't the next one
     by : q ≡ k → ⊥
-    by e = apart (sym (and_from (node_of g k == node) (nat_lt at (place order k) && not (is_frozen g k))
-        (eq-eqb (node_of g k) node (ap (node_of g) (sym e) ∙ there))
+    by is_k = apart (sym (and_from (node_of g k == node) (nat_lt at (place order k) && not (is_frozen g k))
+        (eq-eqb (node_of g k) node (ap (node_of g) (sym is_k) ∙ there))
         (and_from (nat_lt at (place order k)) (not (is_frozen g k)) (lt-ltb at (place order k)
-        (subst (λ n. at < place order n) e behind)) (ap not (ap (is_frozen g) (sym e) ∙ thawed)))) ∙ sym is ∙
+        (subst (λ n. at < place order n) is_k behind)) (ap not (ap (is_frozen g) (sym is_k) ∙ thawed)))) ∙ sym is ∙
         off)
 
 -- if none of the first k items waits for free slots of the node from the place `at` on, and by the test b item k
@@ -68,22 +68,22 @@ pub none_goes_by : (g : Graph) (order : List ℕ) (node at k : ℕ) (b : Bool) �
     at ≤ place order (producer g y) → is_frozen g y ≡ false → ⊥
 none_goes_by g order node at k b so_far is off y below sent there behind thawed = elim (cases_lt y k) [
   | inl less ↦ so_far y less sent there behind thawed
-  | inr more ↦ by (let e : y ≡ k = omega (arith, below, more) in e)
+  | inr more ↦ by (let is_k : y ≡ k = omega (arith, below, more) in is_k)
 ]
   where
     -- true isn't false
     apart : true ≡ false → ⊥
-    apart e = cc
+    apart equal = cc
 
     -- the item that waits isn't the next one
     by : y ≡ k → ⊥
-    by e = apart (sym
+    by is_k = apart (sym
         (and_from (is_sent g k && not (is_frozen g k)) ((home g k == node) && nat_le at (place order (producer g k)))
-        (and_from (is_sent g k) (not (is_frozen g k)) (ap (is_sent g) (sym e) ∙ sent)
-        (ap not (ap (is_frozen g) (sym e) ∙ thawed)))
+        (and_from (is_sent g k) (not (is_frozen g k)) (ap (is_sent g) (sym is_k) ∙ sent)
+        (ap not (ap (is_frozen g) (sym is_k) ∙ thawed)))
         (and_from (home g k == node) (nat_le at (place order (producer g k)))
-        (eq-eqb (home g k) node (ap (home g) (sym e) ∙ there))
-        (le-leb at (place order (producer g k)) (subst (λ n. at ≤ place order (producer g n)) e behind)))) ∙ sym is
+        (eq-eqb (home g k) node (ap (home g) (sym is_k) ∙ there))
+        (le-leb at (place order (producer g k)) (subst (λ n. at ≤ place order (producer g n)) is_k behind)))) ∙ sym is
         ∙ off)
 
 -- if the test of item y is true, some item waits for the node's slots

@@ -75,19 +75,19 @@ pub chosen_valued : (g : Graph) (urgency : List ℕ) → IsUrgencyOrder g urgenc
 chosen_valued g urgency is_urgency urgent p guard is_guard chooser actives s law =
     agrees_weaker s chooser (values_known s (way guard s.values)) (decided g s p)
     (λ z. z ≡ is_active (outcome_at guard s.values)) (λ z. z ≡ active g s.values p)
-    (λ x j. let m = Contains-map_parts (value_known s) (way guard s.values) x j in
-    subst (Contains (decided g s p)) m.2
-    (Contains-map (value_known s) (deciding g s.values p) m.0 (decides_it m.0 m.1)))
-    (λ z e. e ∙ ap (λ (a : Activation). is_active a) (is_guard.is s.values law.values))
+    (λ literal says. let condition = Contains-map_parts (value_known s) (way guard s.values) literal says in
+    subst (Contains (decided g s p)) condition.2
+    (Contains-map (value_known s) (deciding g s.values p) condition.0 (decides_it condition.0 condition.1)))
+    (λ z equal. equal ∙ ap (λ (a : Activation). is_active a) (is_guard.is s.values law.values))
     (actives s (scenario_few g s law))
   where
     -- each of the graph's conditions that decides the process, in the urgency order, is one that decides it
     decides_it : (c : ℕ) → Contains (way guard s.values) c → Contains (deciding g s.values p) c
-    decides_it c j =
-        let r = Contains-filter_parts (decides g s.values p) (conditions_along g urgency) c
+    decides_it c on_way =
+        let parts = Contains-filter_parts (decides g s.values p) (conditions_along g urgency) c
         (subst (λ cs. Contains cs c)
-        (ways_are_deciding g urgency p guard s.values is_urgency urgent is_guard law.values) j) in
-        Contains-filter (decides g s.values p) _ c r.1 (Contains-numbers _ c (from_along g urgency c r.0).0)
+        (ways_are_deciding g urgency p guard s.values is_urgency urgent is_guard law.values) on_way) in
+        Contains-filter (decides g s.values p) _ c parts.1 (Contains-numbers _ c (from_along g urgency c parts.0).0)
 
 -- what is carried beside item x, which is sent, is what is carried at its send
 carried_sent : (g : Graph) (order : List ℕ) (rows : List (List Column)) (s : Scenario) (x : ℕ) (i : Item) →
@@ -142,11 +142,13 @@ module _ (g : Graph) (limits : IsWithinLimits g) (order : List ℕ) (topological
 
     -- it has no frozen time yet
     unset : get_or frozen_old here None ≡ None
-    unset = sending.settled.others here (λ h f done. let m = later here within done in absurd (omega (arith, m)))
+    unset = sending.settled.others here (λ h f done. let sooner = later here within done in
+        absurd (omega (arith, sooner)))
 
     -- it isn't among what is done
     apart : (y : ℕ) → y < item_count g → IsDone g order p k y → y ≢ here
-    apart y h done e = let m = later y h done in let same = ap (moment g order) e in absurd (omega (arith, m, same))
+    apart y below done e = let sooner = later y below done in let same = ap (moment g order) e in
+        absurd (omega (arith, sooner, same))
 
     -- what is done stays done
     grows : (y : ℕ) → IsDone g order p k y → IsDone g order p (k + 1) y
@@ -160,20 +162,25 @@ module _ (g : Graph) (limits : IsWithinLimits g) (order : List ℕ) (topological
 
     -- the first k + 1 items of the queue are the first k and this one
     last_of : (y : ℕ) → Contains (take (k + 1) (queue_of g p)) y → Contains (take k (queue_of g p)) y ⊎ (y ≡ here)
-    last_of y c =
-        let is : take (k + 1) (queue_of g p) ≡ take k (queue_of g p) ++ here ∷ [] =
-        ap (λ n. take n (queue_of g p)) (let e : k + 1 ≡ suc k = omega arith in e)
+    last_of y among =
+        let one_longer : take (k + 1) (queue_of g p) ≡ take k (queue_of g p) ++ here ∷ [] =
+        ap (λ n. take n (queue_of g p)) (let equal : k + 1 ≡ suc k = omega arith in equal)
         ∙ take-suc (queue_of g p) k 0 inside in
-        elim (Contains-append_cases (take k (queue_of g p)) (here ∷ []) y (subst (λ ys. Contains ys y) is c)) [
-          | inl i ↦ inl i
-          | inr i ↦ elim (Contains-cases here [] y i) [ inl e ↦ inr (sym e) | inr j ↦ absurd (Contains-nil y j) ]
+        elim (Contains-append_cases (take k (queue_of g p)) (here ∷ []) y
+        (subst (λ ys. Contains ys y) one_longer among)) [
+          | inl in_first ↦ inl in_first
+          | inr in_last ↦ elim (Contains-cases here [] y in_last) [
+            | inl is_first ↦ inr (sym is_first)
+            | inr in_none ↦ absurd (Contains-nil y in_none)
+          ]
         ]
 
     -- so what is done then was done before, or is this item
     only : (y : ℕ) → IsDone g order p (k + 1) y → IsDone g order p k y ⊎ (y ≡ here)
-    only y (inl e) = inl (inl e)
-    only y (inr (inl e)) = inl (inr (inl e))
-    only y (inr (inr c)) = elim (last_of y c) [ inl i ↦ inl (inr (inr i)) | inr e ↦ inr e ]
+    only y (inl ended) = inl (inl ended)
+    only y (inr (inl sent_earlier)) = inl (inr (inl sent_earlier))
+    only y (inr (inr among)) =
+        elim (last_of y among) [ inl done_before ↦ inl (inr (inr done_before)) | inr is_here ↦ inr is_here ]
 
     -- it is active only if p is
     acts : (s : Scenario) → item_active g s.values (item_at g here) ≡ true → active g s.values p ≡ true
@@ -190,45 +197,46 @@ module _ (g : Graph) (limits : IsWithinLimits g) (order : List ℕ) (topological
     -- what is queued before it is done
     done_before : (y : ℕ) → Contains (queued_before g order here) y → IsDone g order p k y
     -- such an item is sent for a process before p, or is one of the first k of p's queue
-    done_before y c =
+    done_before y is_before =
         elim (Contains-append_cases (sent_before g order (place order p) (node_of g p)) (take k (queue_of g p)) y
-        (queued_so_far g order topological (record { faults = []; values = [] }) p l k inside y c)) [
-          | inl i ↦
-              let r = Contains-flat_map_parts (queue_of g) (before_on_node g order p) y i in
-              let q = in_queue g r.0 y r.2 in
-              inl (omega (arith, (on_node_before g order p r.0 r.1).1, ap (place order) q.by))
-          | inr i ↦ inr (inr i)
+        (queued_so_far g order topological (record { faults = []; values = [] }) p l k inside y is_before)) [
+          | inl in_first ↦
+              let sender = Contains-flat_map_parts (queue_of g) (before_on_node g order p) y in_first in
+              let in_its_queue = in_queue g sender.0 y sender.2 in
+              inl (omega (arith, (on_node_before g order p sender.0 sender.1).1, ap (place order) in_its_queue.by))
+          | inr in_second ↦ inr (inr in_second)
         ]
 
     -- what is queued before it is an item of the graph
     within_before : (y : ℕ) → Contains (queued_before g order here) y → y < item_count g
-    within_before y c = numbers-Contains (item_count g) y
-        (Contains-filter_parts (λ y. is_queued_before g order y here) (numbers_below (item_count g)) y c).0
+    within_before y is_before = numbers-Contains (item_count g) y
+        (Contains-filter_parts (λ y. is_queued_before g order y here) (numbers_below (item_count g)) y is_before).0
 
     -- what is queued before it is sent by the same node, and stands before it
     by_places : (y : ℕ) → Contains (queued_before g order here) y → stands_before g order y here ≡ true
-    by_places y c =
-        let b = and_parts (is_sent g y && (home g y == home g here)) _
-        (Contains-filter_parts (λ y. is_queued_before g order y here) (numbers_below (item_count g)) y c).1 in
-        and_from (is_sent g y && (home g y == home g here)) _ b.0 (⊎_elim
-        (λ (e : comes_before order (producer g y) (producer g here) ≡ true).
-        or_left _ _ (lt-ltb _ _ (places_from_comes_before order (producer g y) (producer g here) e)))
-        (λ e. or_right _ _ e)
-        (or_cases _ _ b.1))
+    by_places y is_before =
+        let parts = and_parts (is_sent g y && (home g y == home g here)) _
+        (Contains-filter_parts (λ y. is_queued_before g order y here) (numbers_below (item_count g)) y is_before).1 in
+        and_from (is_sent g y && (home g y == home g here)) _ parts.0 (⊎_elim
+        (λ (earlier : comes_before order (producer g y) (producer g here) ≡ true).
+        or_left _ _ (lt-ltb _ _ (places_from_comes_before order (producer g y) (producer g here) earlier)))
+        (λ same_producer. or_right _ _ same_producer)
+        (or_cases _ _ parts.1))
 
     -- the other way: an item that stands before it is queued before it
     from_places : (y : ℕ) → y < item_count g → stands_before g order y here ≡ true →
         Contains (queued_before g order here) y
     -- its producer has an earlier place, or the same one and it has a lesser rank
-    from_places y h is =
-        let b = and_parts (is_sent g y && (home g y == home g here)) _ is in
-        queued_from g order topological here y h (and_from (is_sent g y && (home g y == home g here)) _ b.0 (⊎_elim
-        (λ (e : nat_lt (place order (producer g y)) (place order (producer g here)) ≡ true). or_left _ _
+    from_places y below stands =
+        let parts = and_parts (is_sent g y && (home g y == home g here)) _ stands in
+        queued_from g order topological here y below
+        (and_from (is_sent g y && (home g y == home g here)) _ parts.0 (⊎_elim
+        (λ (earlier : nat_lt (place order (producer g y)) (place order (producer g here)) ≡ true). or_left _ _
         (comes_before_from_places order (producer g y) (producer g here) (Contains-order (process_count g) order
-        topological.all (producer g y) (producer_in_range g order topological y h))
-        (ltb-true _ _ e)))
-        (λ e. or_right _ _ e)
-        (or_cases _ _ b.1)))
+        topological.all (producer g y) (producer_in_range g order topological y below))
+        (ltb-true _ _ earlier)))
+        (λ same_producer. or_right _ _ same_producer)
+        (or_cases _ _ parts.1)))
 
     -- in each run under the frozen times so far, the trees say what the send waits for
     valued_send : (s : Scenario) → IsScenario g s → (t : Times) → IsRun g order frozen_old s t →
@@ -247,34 +255,41 @@ module _ (g : Graph) (limits : IsWithinLimits g) (order : List ℕ) (topological
         (sym by_p) (lines.ends p l p_ends) in
         record {
           -- the item is active where the tree says that it goes
-          acts = λ c on. goes.value c on;
-          ends = λ e on. ends.value e on;
+          acts = λ path on. goes.value path on;
+          ends = λ path on. ends.value path on;
           -- its producer has ended then
           ended = λ on. subst (λ q. get_or t.ends q None ≡ Some (end_in t q)) (sym by_p)
-              (let is = has_end g order frozen_old s t run p l (acts s on) in
-              is ∙ ap (λ n. Some n) (sym (ap (λ o. unwrap_or o 0) is)));
+              (let has_its_end = has_end g order frozen_old s t run p l (acts s on) in
+              has_its_end ∙ ap (λ n. Some n) (sym (ap (λ o. unwrap_or o 0) has_its_end)));
           early = small.ends (producer g here);
           value = unfrozen_sent g order frozen_old s t run here goes_over;
           -- each active item before it in the queue has its time by its tree
-          sent = λ y c a.
-              let h = within_before y c in
-              let w = the_path g.faults (times_of g old y).paths (times_tree g old sending.trees y h).each s few in (
+          sent = λ y is_before y_acts.
+              let below = within_before y is_before in
+              let its_path = the_path g.faults (times_of g old y).paths (times_tree g old sending.trees y below).each s
+              few in (
                 time_in t y,
-                (w.0, w.1, (lines.times y h (done_before y c)).value w.0 w.1 ∙ has_time g order frozen_old s t run y h a),
+                (
+                  its_path.0,
+                  its_path.1,
+                  (lines.times y below (done_before y is_before)).value its_path.0 its_path.1
+                      ∙ has_time g order frozen_old s t run y below y_acts,
+                ),
                 sym (later_exact (Some (time_in t y)) (round g) (small.times y) (round-le g limits)),
-                h,
-                by_places y c,
+                below,
+                by_places y is_before,
               );
           -- the other way: such a time is one of those that the send waits for
-          came = λ y time h is v.
-              let c = from_places y h is in
-              let r = time_parts g order frozen_old s t run y time
-              (sym ((lines.times y h (done_before y c)).value v.0 v.1) ∙ v.2) in
+          came = λ y time below stands its_value.
+              let is_before = from_places y below stands in
+              let parts = time_parts g order frozen_old s t run y time
+              (sym ((lines.times y below (done_before y is_before)).value its_value.0 its_value.1) ∙ its_value.2) in
               let bound = greatest_above (send_bounds g order s t here) (time_in t y + round g)
               (Contains-rest _ _ _ (Contains-map (λ z. time_in t z + round g)
               (filter (λ z. item_active g s.values (item_at g z)) (queued_before g order here)) y
-              (Contains-filter (λ z. item_active g s.values (item_at g z)) (queued_before g order here) y r.1 c))) in
-              omega (arith, r.2, bound);
+              (Contains-filter (λ z. item_active g s.values (item_at g z)) (queued_before g order here) y parts.1
+              is_before))) in
+              omega (arith, parts.2, bound);
         }
 
     -- the ends of its producer have a tree of the graph
@@ -284,11 +299,13 @@ module _ (g : Graph) (limits : IsWithinLimits g) (order : List ℕ) (topological
     -- if it is frozen, its time in `frozen_new` is the greatest that it would have in the runs so far
     found : IsFrozenSend g order added.goes here old frozen_old frozen_new added.sent →
         IsFound g order frozen_old here frozen_new
-    found f = frozen_found g order topological frozen_old here (omega (arith, within, sending.settled.count)) unset f.latest
+    found frozen_send = frozen_found g order topological frozen_old here (omega (arith, within, sending.settled.count))
+        unset frozen_send.latest
         (send_above g order frozen_old topological old added.goes added.goes_tree
-        (ends_of g old (producer g here)) of_ends here valued_send f.latest f.top)
+        (ends_of g old (producer g here)) of_ends here valued_send frozen_send.latest frozen_send.top)
         (send_reached g order frozen_old topological old added.goes added.goes_tree
-        (ends_of g old (producer g here)) of_ends here valued_send f.latest f.top) frozen_new f.frozen.set
+        (ends_of g old (producer g here)) of_ends here valued_send frozen_send.latest frozen_send.top) frozen_new
+        frozen_send.frozen.set
 
     -- ---- the frozen times
 
@@ -299,13 +316,13 @@ module _ (g : Graph) (limits : IsWithinLimits g) (order : List ℕ) (topological
         -- an unfrozen item leaves them as they are, and a frozen one adds its latest time
         by : IsSentFor g order added.goes here old frozen_old frozen_new added.sent →
             AreSettledOf g order (IsDone g order p (k + 1)) frozen_new
-        by (inl th) = subst (AreSettledOf g order (IsDone g order p (k + 1))) (sym th.1)
+        by (inl unfrozen) = subst (AreSettledOf g order (IsDone g order p (k + 1))) (sym unfrozen.1)
             (settled_idle g order topological limits (IsDone g order p k)
-            (IsDone g order p (k + 1)) frozen_old sending.settled here within later grows one_more only th.0)
-        by (inr f) =
-            let r = found f.1 in
+            (IsDone g order p (k + 1)) frozen_old sending.settled here within later grows one_more only unfrozen.0)
+        by (inr frozen) =
+            let result = found frozen.1 in
             settled_more g order topological limits (IsDone g order p k) (IsDone g order p (k + 1)) frozen_old
-            sending.settled here within later grows one_more only f.0 frozen_new r.is r.same r.long
+            sending.settled here within later grows one_more only frozen.0 frozen_new result.is result.same result.long
 
     -- all other items keep their frozen times
     same_others : (x : ℕ) → x ≢ here → get_or frozen_old x None ≡ get_or frozen_new x None
@@ -314,8 +331,8 @@ module _ (g : Graph) (limits : IsWithinLimits g) (order : List ℕ) (topological
         -- by whether it isn't frozen, so that none changes, or is, so that its own alone does
         by : IsSentFor g order added.goes here old frozen_old frozen_new added.sent →
             get_or frozen_old x None ≡ get_or frozen_new x None
-        by (inl th) = sym (ap (λ fs. get_or fs x None) th.1)
-        by (inr f) = let r = found f.1 in sym (r.same x other)
+        by (inl unfrozen) = sym (ap (λ fs. get_or fs x None) unfrozen.1)
+        by (inr frozen) = let result = found frozen.1 in sym (result.same x other)
 
     -- each of the new frozen times is below 2^58
     early_after : AreEarly frozen_new
@@ -327,9 +344,10 @@ module _ (g : Graph) (limits : IsWithinLimits g) (order : List ℕ) (topological
     hold_old : (rows : List (List Column)) → RowsHold g order (place order p) new rows →
         RowsHold g order (place order p) old rows
     hold_old rows hold = record {
-      sends = λ x h sent sooner path time j is. hold.sends x h sent sooner path time
+      sends = λ x below sent sooner path time listed is. hold.sends x below sent sooner path time
           (subst (λ (tree : TreeState (Option ℕ)). Contains tree.paths path)
-          (sym (other_times g order chooser here old new frozen_old frozen_new added x (apart x h (inl sooner)))) j) is;
+          (sym (other_times g order chooser here old new frozen_old frozen_new added x (apart x below (inl sooner))))
+          listed) is;
     }
 
     -- given: rows that hold what the new trees list, and one scenario with its run
@@ -340,11 +358,12 @@ module _ (g : Graph) (limits : IsWithinLimits g) (order : List ℕ) (topological
       -- times
       old_lines : SendLines g order rows s t p k old
       old_lines =
-          let r = a_run g order frozen_old s topological in
-          send_lines_over g order topological p l k inside s r.0 t
-          (agree_before g order topological s r.0 t frozen_old frozen_new r.1 run (moment g order here)
-          (λ x h m. same_others x (λ e. let same = ap (moment g order) e in absurd (omega (arith, m, same)))))
-          rows old (sending.lines rows (hold_old rows hold) s law r.0 r.1)
+          let old_run = a_run g order frozen_old s topological in
+          send_lines_over g order topological p l k inside s old_run.0 t
+          (agree_before g order topological s old_run.0 t frozen_old frozen_new old_run.1 run (moment g order here)
+          (λ x below sooner. same_others x (λ is_here. let same = ap (moment g order) is_here in
+          absurd (omega (arith, sooner, same)))))
+          rows old (sending.lines rows (hold_old rows hold) s law old_run.0 old_run.1)
 
       -- each time of the run is below 2^59
       small : AreSmall t
@@ -361,48 +380,53 @@ module _ (g : Graph) (limits : IsWithinLimits g) (order : List ℕ) (topological
 
       -- the new tree of free slots says when they are free once it is sent, if a later item waits for that
       freed : IsQueuedFor g order (place order p) (node_of g p) → IsFreeOnce g order rows s t p (k + 1) new
-      freed q = free_once g limits order topological rows s law (scenario_few g s law) frozen_new t run small p l k inside
+      freed waited = free_once g limits order topological rows s law (scenario_few g s law) frozen_new t run small p l k
+          inside
           chooser old new frozen_old frozen_new sending.trees added on_node (chosen s law)
           (λ on. old_lines.ends p l p_ends) old_lines.here refl (omega (arith, within, sending.settled.count)) unset
-          (λ is. settled_then.each here within is one_more) q
+          (λ is. settled_then.each here within is one_more) waited
 
       -- the lines of the run with k + 1 items: those of before for other items and for all ends, and for this item
       -- the time that is put
       send_lines : SendLines g order rows s t p (k + 1) new
       send_lines = record {
         -- another item's tree is as before, and this one's has its time
-        times = λ x h done. elim (only x done) [
-          | inl d ↦ subst
+        times = λ x below done. elim (only x done) [
+          | inl was_done ↦ subst
               (λ (tree : TreeState (Option ℕ)). HasValueFrom s (carried g order rows s x) (get_or t.times x None) tree)
-              (sym (other_times g order chooser here old new frozen_old frozen_new added x (apart x h d)))
-              (old_lines.times x h d)
-          | inr e ↦ subst (λ z. HasValueFrom s (carried g order rows s z) (get_or t.times z None) (times_of g new z))
-              (sym e) valued_here
+              (sym (other_times g order chooser here old new frozen_old frozen_new added x (apart x below was_done)))
+              (old_lines.times x below was_done)
+          | inr is_here ↦ subst (λ z. HasValueFrom s (carried g order rows s z) (get_or t.times z None)
+              (times_of g new z))
+              (sym is_here) valued_here
         ];
         -- the ends, and when nodes are ready, are as before
-        ends = λ q h less. subst (λ (tree : TreeState (Option ℕ)).
+        ends = λ q below less. subst (λ (tree : TreeState (Option ℕ)).
             HasValueFrom s (carried_at_end g order rows s q) (get_or t.ends q None) tree)
-            (sym (same_ends g order chooser here old new frozen_old frozen_new added q)) (old_lines.ends q h less);
-        ready = λ node h w. subst (λ (tree : TreeState ℕ). IsReadyLine g order rows s t (place order p + 1) node tree)
+            (sym (same_ends g order chooser here old new frozen_old frozen_new added q)) (old_lines.ends q below less);
+        ready = λ node below waited. subst
+            (λ (tree : TreeState ℕ). IsReadyLine g order rows s t (place order p + 1) node tree)
             (sym (same_ready g order chooser here old new frozen_old frozen_new added node))
-            (old_lines.ready node h w);
+            (old_lines.ready node below waited);
         here = freed;
         -- the slots of other nodes are free as before
-        free = λ node h other q. subst (λ (tree : TreeState ℕ). IsFreeLine g order rows s t (place order p) node tree)
+        free = λ node below other waited. subst
+            (λ (tree : TreeState ℕ). IsFreeLine g order rows s t (place order p) node tree)
             (sym (other_free g order chooser here old new frozen_old frozen_new added node
-            (λ e. other (e ∙ ap (node_of g) by_p)))) (old_lines.free node h other q);
+            (λ same_node. other (same_node ∙ ap (node_of g) by_p)))) (old_lines.free node below other waited);
       }
 
     -- items that no process sends still have a tree without times
     unsent_then : LeavesUnsent g new
-    unsent_then x big h is =
+    unsent_then x big below not_sent =
         subst (λ (tree : TreeState (Option ℕ)). IsConstant None g.faults tree)
         (sym (other_times g order chooser here old new frozen_old frozen_new added x
-        (λ e. absurd (not_both (sym (ap (is_sent g) e ∙ goes_over) ∙ is))))) (sending.unsent x big h is)
+        (λ is_here. absurd (not_both (sym (ap (is_sent g) is_here ∙ goes_over) ∙ not_sent)))))
+        (sending.unsent x big below not_sent)
       where
         -- what is excluded: an item that is sent and isn't
         not_both : true ≡ false → ⊥
-        not_both e = cc
+        not_both equal = cc
 
     -- with the item added, the first k + 1 items are sent
     pub next_sent : IsSending g order p (k + 1) frozen_new new
@@ -421,18 +445,19 @@ module _ (g : Graph) (limits : IsWithinLimits g) (order : List ℕ) (topological
       IsSending g order p k frozen_old old → AreItemsAdded g order chooser xs old new frozen_old frozen_new →
       IsSending g order p (length (queue_of g p)) frozen_new new
   -- by induction on the list
-  rest_sent [] k count is old new frozen_old frozen_new sending none =
+  rest_sent [] k count are_last old new frozen_old frozen_new sending none =
       -- all that the process sends is sent
       let all : k ≡ length (queue_of g p) = omega (arith, count) in
       subst (λ n. IsSending g order p n frozen_new new) all (subst (λ f. IsSending g order p k frozen_new f) (sym none.0)
-      (subst (λ h. IsSending g order p k h old) (sym none.1) sending))
-  rest_sent (x ∷ xs) k count is old new frozen_old frozen_new sending more =
+      (subst (λ frozen. IsSending g order p k frozen old) (sym none.1) sending))
+  rest_sent (x ∷ xs) k count are_last old new frozen_old frozen_new sending more =
       -- the next item is the one at place k of its queue
       let inside : k < length (queue_of g p) = omega (arith, count) in
       let is_head : x ≡ get_or (queue_of g p) k 0 =
-      is 0 (omega arith) ∙ ap (λ n. get_or (queue_of g p) n 0) (let e : k + 0 ≡ k = omega arith in e) in
-      rest_sent xs (k + 1) (omega (arith, count)) (λ i h. is (suc i) (omega (arith, h))
-      ∙ ap (λ n. get_or (queue_of g p) n 0) (let e : k + suc i ≡ k + 1 + i = omega arith in e)) more.0 new more.1
+      are_last 0 (omega arith) ∙ ap (λ n. get_or (queue_of g p) n 0) (let equal : k + 0 ≡ k = omega arith in equal) in
+      rest_sent xs (k + 1) (omega (arith, count)) (λ i below. are_last (suc i) (omega (arith, below))
+      ∙ ap (λ n. get_or (queue_of g p) n 0) (let equal : k + suc i ≡ k + 1 + i = omega arith in equal))
+      more.0 new more.1
       frozen_new
       (next_sent k inside old more.0 frozen_old more.1 sending
       (subst (λ y. IsItemAdded g order chooser y old more.0 frozen_old more.1) is_head more.2)) more.3
@@ -443,5 +468,6 @@ module _ (g : Graph) (limits : IsWithinLimits g) (order : List ℕ) (topological
       AreItemsAdded g order chooser (queue_of g p) old new frozen_old frozen_new →
       IsSending g order p (length (queue_of g p)) frozen_new new
   all_sent old new frozen_old frozen_new sending added = rest_sent (queue_of g p) 0 (omega arith)
-      (λ i h. let place_0 : ℕ = 0 in ap (λ n. get_or (queue_of g p) n 0) (let e : i ≡ place_0 + i = omega arith in e))
+      (λ i below. let place_0 : ℕ = 0 in
+      ap (λ n. get_or (queue_of g p) n 0) (let equal : i ≡ place_0 + i = omega arith in equal))
       old new frozen_old frozen_new sending added

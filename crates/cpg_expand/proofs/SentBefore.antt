@@ -41,62 +41,66 @@ module _ (g : Graph) (order : List ℕ) (topological : IsTopological g order) (s
 
   -- what the node has sent so far stands before the item in the queue
   pub so_far_queued : (y : ℕ) → Contains (sent_so_far g order p k) y → Contains (queued_before g order here) y
-  so_far_queued y j =
-      let x = in_queue g p here in_here in
-      elim (Contains-append_cases (sent_before g order (place order p) (node_of g p)) (take k (queue_of g p)) y j) [
+  so_far_queued y is_sent =
+      let here_queued = in_queue g p here in_here in
+      elim (Contains-append_cases (sent_before g order (place order p) (node_of g p))
+      (take k (queue_of g p)) y is_sent) [
         -- sent for an earlier process of the node
-        | inl i ↦
-            let r = Contains-flat_map_parts (queue_of g) (before_on_node g order p) y i in
-            let q = in_queue g r.0 y r.2 in
-            let o = on_node_before g order p r.0 r.1 in
-            let on : node_of g r.0 ≡ node_of g p = eqb-true _ _
-            (Contains-filter_parts (λ (u : ℕ). node_of g u == node_of g p) (before order p) r.0 r.1).1 in
+        | inl in_first ↦
+            let sender = Contains-flat_map_parts (queue_of g) (before_on_node g order p) y in_first in
+            let its_queue = in_queue g sender.0 y sender.2 in
+            let before_p = on_node_before g order p sender.0 sender.1 in
+            let same_node : node_of g sender.0 ≡ node_of g p = eqb-true _ _
+            (Contains-filter_parts (λ (u : ℕ). node_of g u == node_of g p) (before order p) sender.0 sender.1).1 in
             let same : (home g y == home g here) ≡ true =
-            eq-eqb _ _ (ap (node_of g) q.by ∙ on ∙ sym (ap (node_of g) x.by)) in
-            queued_from g order topological here y q.within
-            (and_from _ _ (and_from _ _ q.sent same)
+            eq-eqb _ _ (ap (node_of g) its_queue.by ∙ same_node ∙ sym (ap (node_of g) here_queued.by)) in
+            queued_from g order topological here y its_queue.within
+            (and_from _ _ (and_from _ _ its_queue.sent same)
             (or_left _ _ (comes_before_from_places order (producer g y) (producer g here)
             (Contains-order (process_count g) order topological.all (producer g y)
-            (producer_in_range g order topological y q.within))
-            (omega (arith, o.1, ap (place order) q.by, ap (place order) x.by)))))
+            (producer_in_range g order topological y its_queue.within))
+            (omega (arith, before_p.1, ap (place order) its_queue.by, ap (place order) here_queued.by)))))
         -- sent before it by the same process
         | inr among ↦
-            let q = in_queue g p y (Contains-take k (queue_of g p) y among) in
-            let same : (home g y == home g here) ≡ true = eq-eqb _ _ (ap (node_of g) (q.by ∙ sym x.by)) in
-            queued_from g order topological here y q.within
-            (and_from _ _ (and_from _ _ q.sent same) (or_right _ _
-            (and_from _ _ (eq-eqb _ _ (q.by ∙ sym x.by))
+            let its_queue = in_queue g p y (Contains-take k (queue_of g p) y among) in
+            let same : (home g y == home g here) ≡ true =
+            eq-eqb _ _ (ap (node_of g) (its_queue.by ∙ sym here_queued.by)) in
+            queued_from g order topological here y its_queue.within
+            (and_from _ _ (and_from _ _ its_queue.sent same) (or_right _ _
+            (and_from _ _ (eq-eqb _ _ (its_queue.by ∙ sym here_queued.by))
             (lt-ltb _ _ (below_first (rank_at g) (queue_of g p) (queue_rises g p) k inside y among)))))
       ]
 
   -- only what the node has sent so far stands before the item in the queue
   pub queued_so_far : (y : ℕ) → Contains (queued_before g order here) y → Contains (sent_so_far g order p k) y
-  queued_so_far y j =
-      let f = Contains-filter_parts (λ y. is_queued_before g order y here) (numbers_below (item_count g)) y j in
+  queued_so_far y is_before =
+      let parts = Contains-filter_parts (λ y. is_queued_before g order y here) (numbers_below (item_count g)) y
+      is_before in
       -- y is an item of the node that is sent, and stands before this one
-      let m : y < item_count g = numbers-Contains (item_count g) y f.0 in
-      let b = and_parts _ _ f.1 in
-      let d = and_parts _ _ b.0 in
-      let x = in_queue g p here in_here in
+      let below : y < item_count g = numbers-Contains (item_count g) y parts.0 in
+      let tests = and_parts _ _ parts.1 in
+      let sent_here = and_parts _ _ tests.0 in
+      let here_queued = in_queue g p here in_here in
       ⊎_elim
       -- by the place of its producer
       (λ (e : comes_before order (producer g y) (producer g here) ≡ true).
       let less = places_from_comes_before order (producer g y) (producer g here) e in
       let in_order = Contains-order (process_count g) order topological.all (producer g y)
-      (producer_in_range g order topological y m) in
+      (producer_in_range g order topological y below) in
       Contains-append_left (sent_before g order (place order p) (node_of g p)) (take k (queue_of g p)) y
       (Contains-flat_map (queue_of g) (before_on_node g order p) (producer g y) y
       (Contains-filter (λ (u : ℕ). node_of g u == node_of g p) (before order p) (producer g y)
-      (eq-eqb _ _ (eqb-true _ _ d.1 ∙ ap (node_of g) x.by))
-      (Contains-before order (producer g y) p in_order (omega (arith, less, ap (place order) x.by))))
-      (queue-Contains g (producer g y) y m d.0 refl)))
+      (eq-eqb _ _ (eqb-true _ _ sent_here.1 ∙ ap (node_of g) here_queued.by))
+      (Contains-before order (producer g y) p in_order (omega (arith, less, ap (place order) here_queued.by))))
+      (queue-Contains g (producer g y) y below sent_here.0 refl)))
       -- or by its own rank, if they have one producer
       (λ (e : ((producer g y == producer g here) && ltb (rank_of_item (item_at g y)) (rank_of_item (item_at g here))) ≡ true).
-      let w = and_parts (producer g y == producer g here) _ e in
+      let same_sender = and_parts (producer g y == producer g here) _ e in
       Contains-append_right (sent_before g order (place order p) (node_of g p)) (take k (queue_of g p)) y
       (in_first (rank_at g) (queue_of g p) (queue_rises g p) k inside y
-      (queue-Contains g p y m d.0 (eqb-true _ _ w.0 ∙ x.by)) (ltb-true _ _ w.1)))
-      (or_cases _ _ b.1)
+      (queue-Contains g p y below sent_here.0 (eqb-true _ _ same_sender.0 ∙ here_queued.by))
+      (ltb-true _ _ same_sender.1)))
+      (or_cases _ _ tests.1)
 
   -- given: rows
   module _ (rows : List (List Column)) where
@@ -110,9 +114,11 @@ module _ (g : Graph) (order : List ℕ) (topological : IsTopological g order) (s
         HasValueFrom s (flat_map (queued g order rows s) (queued_before g order here)) y tree
     has_value_before y tree = agrees_weaker s tree (support_all (sent_so_far g order p k))
         (support_all (queued_before g order here)) (λ z. z ≡ y) (λ z. z ≡ y)
-        (λ m j. let r = Contains-flat_map_parts (queued g order rows s) (sent_so_far g order p k) m j in
-        Contains-flat_map (queued g order rows s) (queued_before g order here) r.0 m (so_far_queued r.0 r.1) r.2)
-        (λ z e. e)
+        (λ literal listed. let source = Contains-flat_map_parts (queued g order rows s)
+        (sent_so_far g order p k) literal listed in
+        Contains-flat_map (queued g order rows s) (queued_before g order here) source.0 literal
+        (so_far_queued source.0 source.1) source.2)
+        (λ z equal. equal)
 
     -- a tree that says no more than what is left to the next item and what that one leaves says no more than what all
     -- items sent by then leave
@@ -123,29 +129,31 @@ module _ (g : Graph) (order : List ℕ) (topological : IsTopological g order) (s
     has_value_after y tree =
         agrees_weaker s tree (support_all (queued_before g order here) ++ queued g order rows s here)
         (support_all (sent_so_far g order p (k + 1))) (λ z. z ≡ y) (λ z. z ≡ y)
-        within (λ z e. e)
+        within (λ z equal. equal)
       where
         -- what is sent before the item is sent before the next one, too
         grown : (z : ℕ) → Contains (sent_so_far g order p k) z → Contains (sent_so_far g order p (k + 1)) z
-        grown z j = elim (Contains-append_cases (sent_before g order (place order p) (node_of g p))
-            (take k (queue_of g p)) z j) [
-              | inl i ↦
+        grown z was_sent = elim (Contains-append_cases (sent_before g order (place order p) (node_of g p))
+            (take k (queue_of g p)) z was_sent) [
+              | inl in_first ↦
                   Contains-append_left (sent_before g order (place order p) (node_of g p))
-                  (take (k + 1) (queue_of g p)) z i
-              | inr i ↦ Contains-append_right (sent_before g order (place order p) (node_of g p))
-                  (take (k + 1) (queue_of g p)) z (in_next (queue_of g p) k z inside (inl i))
+                  (take (k + 1) (queue_of g p)) z in_first
+              | inr in_second ↦ Contains-append_right (sent_before g order (place order p) (node_of g p))
+                  (take (k + 1) (queue_of g p)) z (in_next (queue_of g p) k z inside (inl in_second))
             ]
 
         -- what the items before it and the item itself leave is left by all that is sent by then
         within : (m : Literal) → Contains (support_all (queued_before g order here) ++ queued g order rows s here) m →
             Contains (support_all (sent_so_far g order p (k + 1))) m
         -- a literal is left by what stands before the item, or by the item itself
-        within m j =
-            elim (Contains-append_cases (support_all (queued_before g order here)) (queued g order rows s here) m j) [
-              | inl i ↦ let r = Contains-flat_map_parts (queued g order rows s) (queued_before g order here) m i in
-                  Contains-flat_map (queued g order rows s) (sent_so_far g order p (k + 1)) r.0 m
-                  (grown r.0 (queued_so_far r.0 r.1)) r.2
-              | inr i ↦ Contains-flat_map (queued g order rows s) (sent_so_far g order p (k + 1)) here m
+        within literal listed =
+            elim (Contains-append_cases (support_all (queued_before g order here)) (queued g order rows s here) literal
+            listed) [
+              | inl in_first ↦ let source = Contains-flat_map_parts (queued g order rows s) (queued_before g order here)
+                  literal in_first in
+                  Contains-flat_map (queued g order rows s) (sent_so_far g order p (k + 1)) source.0 literal
+                  (grown source.0 (queued_so_far source.0 source.1)) source.2
+              | inr in_second ↦ Contains-flat_map (queued g order rows s) (sent_so_far g order p (k + 1)) here literal
                   (Contains-append_right (sent_before g order (place order p) (node_of g p))
-                  (take (k + 1) (queue_of g p)) here (in_next (queue_of g p) k here inside (inr refl))) i
+                  (take (k + 1) (queue_of g p)) here (in_next (queue_of g p) k here inside (inr refl))) in_second
             ]

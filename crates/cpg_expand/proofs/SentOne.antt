@@ -115,10 +115,10 @@ module _ (g : Graph) (limits : IsWithinLimits g) (order : List ℕ) (topological
     at_most : (m : Literal) → Contains says m →
         Contains (decided g s (producer g here)) m ⊎
         ((active g s.values (producer g here) ≡ true) × Contains (sent_by_value g s here) m)
-    at_most m j = elim (Contains-append_cases (decided g s (producer g here))
-        (if active g s.values (producer g here) then sent_by_value g s here else []) m j) [
-          | inl i ↦ inl i
-          | inr i ↦ inr (of_value (active g s.values (producer g here)) refl i)
+    at_most m listed = elim (Contains-append_cases (decided g s (producer g here))
+        (if active g s.values (producer g here) then sent_by_value g s here else []) m listed) [
+          | inl in_first ↦ inl in_first
+          | inr in_second ↦ inr (of_value (active g s.values (producer g here)) refl in_second)
         ]
       where
         -- by whether the producer is active: only then are there literals of a value
@@ -126,8 +126,8 @@ module _ (g : Graph) (limits : IsWithinLimits g) (order : List ℕ) (topological
             Contains (if b then sent_by_value g s here else []) m →
             (active g s.values (producer g here) ≡ true) ×
             Contains (sent_by_value g s here) m
-        of_value true e i = (e, i)
-        of_value false e i = absurd (Contains-nil m i)
+        of_value true on listed = (on, listed)
+        of_value false is_b listed = absurd (Contains-nil m listed)
 
     -- if it goes, the old trees give the end of its producer
     ends_valued : item_active g s.values (item_at g here) ≡ true →
@@ -141,9 +141,11 @@ module _ (g : Graph) (limits : IsWithinLimits g) (order : List ℕ) (topological
     waits : (o : IsFreeOnce g order rows s t p k old) →
         HasValueFrom s (flat_map (queued g order rows s) (queued_before g order here)) o.time
         (free_of g old (home g here))
-    waits o = subst (λ q. HasValueFrom s (flat_map (queued g order rows s) (queued_before g order here)) o.time
+    waits before = subst (λ q. HasValueFrom s (flat_map (queued g order rows s) (queued_before g order here))
+        before.time
         (free_of g old (node_of g q))) (sym by)
-        (has_value_before g order topological s p l k inside rows o.time (free_of g old (node_of g p)) o.has_value)
+        (has_value_before g order topological s p l k inside rows before.time (free_of g old (node_of g p))
+        before.has_value)
 
     -- ---- its times
 
@@ -172,10 +174,10 @@ module _ (g : Graph) (limits : IsWithinLimits g) (order : List ℕ) (topological
     -- if it is frozen, its frozen time where it goes, and none elsewhere, is its time in the run
     frozen_time : is_frozen g here ≡ true → (latest : Option ℕ) → get_or frozen here None ≡ latest →
         (if item_active g s.values (item_at g here) then Some (unwrap_or latest 0) else None) ≡ get_or t.times here None
-    frozen_time e (Some time) is = frozen_send_value g order frozen s t run here within time is
-        (λ on. (settled e).greatest time (unfrozen_time g order s t here) is (would on))
-    frozen_time e None is = elim (cases_Bool (item_active g s.values (item_at g here))) [
-      | inl on ↦ absurd ((settled e).none is (unfrozen_time g order s t here) (would on))
+    frozen_time here_frozen (Some time) is = frozen_send_value g order frozen s t run here within time is
+        (λ on. (settled here_frozen).greatest time (unfrozen_time g order s t here) is (would on))
+    frozen_time here_frozen None is = elim (cases_Bool (item_active g s.values (item_at g here))) [
+      | inl on ↦ absurd ((settled here_frozen).none is (unfrozen_time g order s t here) (would on))
       | inr off ↦ cond-false _ _ _ off ∙ sym (time_is g order frozen s t run here within ∙ cond-false _ _ _ off)
     ]
 
@@ -186,7 +188,7 @@ module _ (g : Graph) (limits : IsWithinLimits g) (order : List ℕ) (topological
       within = within;
       sent = (in_queue g p here in_here).sent;
       there = ap (node_of g) by;
-      later = (let e = ap (place order) by in omega (arith, e));
+      later = (let same_place = ap (place order) by in omega (arith, same_place));
       thawed = thawed;
     }
 
@@ -197,12 +199,14 @@ module _ (g : Graph) (limits : IsWithinLimits g) (order : List ℕ) (topological
         -- by whether it isn't frozen, or is sent at its frozen time
         by : IsSentFor g order added.goes here old frozen_old frozen_new added.sent →
             HasValueFrom s (carried_at_send g order rows s here) (get_or t.times here None) added.sent
-        by (inl th) = of_thawed (once (queued_here th.0)) th.0 th.1 th.2
-        by (inr f) = subst (λ (o : Option ℕ). HasValueFrom s (carried_at_send g order rows s here) o added.sent)
-            (frozen_time f.0 f.1.latest
-            (same ∙ ap (λ h. get_or h here None) f.1.frozen.set ∙ set_here frozen_old here f.1.latest long unset))
-            (frozen_send_line g order rows s few here says added.goes of_goes at_most f.0 added.sent
-            (unwrap_or f.1.latest 0) added.goes_tree f.1.frozen.made)
+        by (inl thawed) = of_thawed (once (queued_here thawed.0)) thawed.0 thawed.1 thawed.2
+        by (inr frozen_send) = subst
+            (λ (o : Option ℕ). HasValueFrom s (carried_at_send g order rows s here) o added.sent)
+            (frozen_time frozen_send.0 frozen_send.1.latest
+            (same ∙ ap (λ h. get_or h here None) frozen_send.1.frozen.set
+            ∙ set_here frozen_old here frozen_send.1.latest long unset))
+            (frozen_send_line g order rows s few here says added.goes of_goes at_most frozen_send.0 added.sent
+            (unwrap_or frozen_send.1.latest 0) added.goes_tree frozen_send.1.frozen.made)
 
     -- the new forest has this tree at the item
     times_is : times_of g new here ≡ added.sent
@@ -225,37 +229,38 @@ module _ (g : Graph) (limits : IsWithinLimits g) (order : List ℕ) (topological
 
     -- when the slots are free with it: a round after its time if it goes, and else as before
     abbrev free_then : IsFreeOnce g order rows s t p k old → ℕ
-    free_then o = if item_active g s.values (item_at g here)
-        then time_later (round g) (get_or t.times here None) else o.time
+    free_then before = if item_active g s.values (item_at g here)
+        then time_later (round g) (get_or t.times here None) else before.time
 
     -- the new tree of free slots is made of the old one and the send, if a later item waits for it
     frees_here : IsQueuedFor g order (place order p) (node_of g p) →
         IsFreeTree g.faults (round g) added.goes added.sent (free_of g old (home g here)) added.freed
-    frees_here q = added.frees (subst (λ r. IsQueuedFor g order (place order r) (node_of g r)) (sym by) q)
+    frees_here waited = added.frees (subst (λ r. IsQueuedFor g order (place order r) (node_of g r)) (sym by) waited)
 
     -- the new tree of free slots agrees with what all items sent by then leave
     free_has_value : (o : IsFreeOnce g order rows s t p k old) → IsQueuedFor g order (place order p) (node_of g p) →
         HasValueFrom s (flat_map (queued g order rows s) (sent_so_far g order p (k + 1))) (free_then o) added.freed
-    free_has_value o q = has_value_after g order topological s p l k inside rows (free_then o) added.freed
+    free_has_value before waited =
+        has_value_after g order topological s p l k inside rows (free_then before) added.freed
         (free_line g order rows s few here acts says added.goes of_goes at_most (round g) added.sent
-        (free_of g old (home g here)) added.freed (get_or t.times here None) o.time
-        (frees_here q) sends_valued (waits o))
+        (free_of g old (home g here)) added.freed (get_or t.times here None) before.time
+        (frees_here waited) sends_valued (waits before))
 
     -- the slots are free by the new item if it goes, and else as before
     most_then : (o : IsFreeOnce g order rows s t p k old) (b : Bool) → item_active g s.values (item_at g here) ≡ b →
         IsMost (IsSentBy g order s p (k + 1)) (free_after g t)
         (if b then time_later (round g) (get_or t.times here None) else o.time)
-    most_then o true on = subst (IsMost (IsSentBy g order s p (k + 1)) (free_after g t))
+    most_then before true on = subst (IsMost (IsSentBy g order s p (k + 1)) (free_after g t))
         (sym (later_exact (get_or t.times here None) (round g) (small.times here) (round-le g limits)))
-        (free_next g order topological s p l k inside frozen t run o.time o.is on)
-    most_then o false off = free_same g order topological s p l k inside t o.time off o.is
+        (free_next g order topological s p l k inside frozen t run before.time before.is on)
+    most_then before false off = free_same g order topological s p l k inside t before.time off before.is
 
     -- with the item the tree still says when the slots are free
     pub free_once : IsQueuedFor g order (place order p) (node_of g p) → IsFreeOnce g order rows s t p (k + 1) new
-    free_once q = record {
-      time = free_then (once q);
-      is = most_then (once q) (item_active g s.values (item_at g here)) refl;
+    free_once waited = record {
+      time = free_then (once waited);
+      is = most_then (once waited) (item_active g s.values (item_at g here)) refl;
       has_value =
           subst (λ (u : TreeState ℕ). HasValueFrom s (flat_map (queued g order rows s) (sent_so_far g order p (k + 1)))
-          (free_then (once q)) u) (sym free_is) (free_has_value (once q) q);
+          (free_then (once waited)) u) (sym free_is) (free_has_value (once waited) waited);
     }

@@ -22,18 +22,19 @@ use Rattle.cpg_expand.proofs.FrozenFound.{set_count}
 pub slots_read : (k m : ℕ) (share here : ShareState) (goes : TreeState Bool) (end of_end : TreeState (Option ℕ))
     (free of_free : TreeState ℕ) (t : TreeState (Option ℕ)) → k ≡ m → share ≡ here →
     end ≡ of_end → free ≡ of_free → IsSentTree k share goes end free t → IsSentTree m here goes of_end of_free t
-slots_read k m share here goes end of_end free of_free t e f i j is =
-    subst (λ n. IsSentTree n here goes of_end of_free t) e
-    (subst (λ h. IsSentTree k h goes of_end of_free t) f
-    (subst (λ u. IsSentTree k share goes u of_free t) i (subst (λ u. IsSentTree k share goes end u t) j is)))
+slots_read k m share here goes end of_end free of_free t same_k same_share same_end same_free is =
+    subst (λ n. IsSentTree n here goes of_end of_free t) same_k
+    (subst (λ h. IsSentTree k h goes of_end of_free t) same_share
+    (subst (λ u. IsSentTree k share goes u of_free t) same_end
+    (subst (λ u. IsSentTree k share goes end u t) same_free is)))
 
 -- if `latest` is the latest time of x for a share and a tree of ends, it is so for equal ones: `here` and `of_end`
 pub latest_read : (g : Graph) (order : List ℕ) (f : ForestState) (share here : ShareState) (goes : TreeState Bool)
     (end of_end : TreeState (Option ℕ)) (x : ℕ) (latest : Option ℕ) → share ≡ here →
     end ≡ of_end → IsLatestSend g order f share goes end x latest → IsLatestSend g order f here goes of_end x latest
-latest_read g order f share here goes end of_end x latest e i is =
-    subst (λ h. IsLatestSend g order f h goes of_end x latest) e
-    (subst (λ u. IsLatestSend g order f share goes u x latest) i is)
+latest_read g order f share here goes end of_end x latest same_share same_end is =
+    subst (λ h. IsLatestSend g order f h goes of_end x latest) same_share
+    (subst (λ u. IsLatestSend g order f share goes u x latest) same_end is)
 
 -- if t is the tree of free slots for k faults, a round and a tree of earlier free slots, it is so for equal ones: m,
 -- `here` and `of_free`
@@ -41,8 +42,10 @@ pub free_then_read : (k m turn here : ℕ) (goes : TreeState Bool) (sent : TreeS
     (free of_free t : TreeState ℕ) → k ≡ m → turn ≡ here →
     free ≡ of_free →
     IsFreeTree k turn goes sent free t → IsFreeTree m here goes sent of_free t
-free_then_read k m turn here goes sent free of_free t e f j is = subst (λ n. IsFreeTree n here goes sent of_free t) e
-    (subst (λ h. IsFreeTree k h goes sent of_free t) f (subst (λ u. IsFreeTree k turn goes sent u t) j is))
+free_then_read k m turn here goes sent free of_free t same_k same_turn same_free is =
+    subst (λ n. IsFreeTree n here goes sent of_free t) same_k
+    (subst (λ h. IsFreeTree k h goes sent of_free t) same_turn
+    (subst (λ u. IsFreeTree k turn goes sent u t) same_free is))
 
 -- there are as many frozen times after the send of x (`frozen_new`) as before it (`frozen_old`)
 pub sent_count : (g : Graph) (order : List ℕ) (goes : TreeState Bool) (x : ℕ) (f : ForestState)
@@ -118,8 +121,8 @@ module _ (g : Graph) (order : List ℕ) (chooser : TreeState Bool) where
       AreItemsAdded g order chooser (take k xs) old mid frozen_old frozen_mid →
       IsItemAdded g order chooser (get_or xs k 0) mid new frozen_mid frozen_new
       → AreItemsAdded g order chooser (take (k + 1) xs) old new frozen_old frozen_new
-  next_added xs k l old mid new frozen_old frozen_mid frozen_new added last =
+  next_added xs k inside old mid new frozen_old frozen_mid frozen_new added last =
       let is : take (k + 1) xs ≡ take k xs ++ get_or xs k 0 ∷ [] =
-      ap (λ n. take n xs) (let e : k + 1 ≡ suc k = omega arith in e) ∙ take-suc xs k 0 l in
+      ap (λ n. take n xs) (let equal : k + 1 ≡ suc k = omega arith in equal) ∙ take-suc xs k 0 inside in
       subst (λ ys. AreItemsAdded g order chooser ys old new frozen_old frozen_new) (sym is)
       (one_more (take k xs) (get_or xs k 0) old mid new frozen_old frozen_mid frozen_new added last)

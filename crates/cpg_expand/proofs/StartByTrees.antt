@@ -73,9 +73,9 @@ heard_each g f has node c low = by (node_of g (process_of g c) == node)
 -- a guard that is always active leads to an active leaf
 always_acts : (guard : Guard) (o : List Bool) → is_always guard ≡ true → is_active (outcome_at guard o) ≡ true
 -- by induction on the guard
-always_acts (Leaf a) o e = e
-always_acts (Test c off on) o e =
-    let parts = and_parts (is_always off) (is_always on) e in
+always_acts (Leaf a) o always = always
+always_acts (Test c off on) o always =
+    let parts = and_parts (is_always off) (is_always on) always in
     by (get_or o c false) (always_acts on o parts.1) (always_acts off o parts.0)
   where
     -- if the leaves of both sides are active, so is that of the side that the outcome takes
@@ -117,21 +117,21 @@ module _ (g : Graph) (limits : IsWithinLimits g) (order : List ℕ) (topological
       where
         -- by the time of its start, which it has if it has an end
         by : (o : Option ℕ) → get_or t.times q None ≡ o → active g s.values q ≡ true
-        by (Some y) e = acts_start g order frozen s t run q k (time_parts g order frozen s t run q y e).1
-        by None e = absurd (none-some time (sym (end_is g order frozen s t run q k
-            ∙ ap (option_map (λ start. start + duration g q (fault_of s q))) e) ∙ is))
+        by (Some y) is_o = acts_start g order frozen s t run q k (time_parts g order frozen s t run q y is_o).1
+        by None is_o = absurd (none-some time (sym (end_is g order frozen s t run q k
+            ∙ ap (option_map (λ start. start + duration g q (fault_of s q))) is_o) ∙ is))
 
     -- a time that the tree of its ends gives in this scenario is its end in the run
     ended_is : (time : ℕ) → HasValueAt (ends_of g f q).paths (Some time) s → get_or t.ends q None ≡ Some time
-    ended_is time h = sym ((lines.ends q k sooner).value h.0 h.1) ∙ h.2
+    ended_is time in_tree = sym ((lines.ends q k sooner).value in_tree.0 in_tree.1) ∙ in_tree.2
 
     -- if it is active, the tree gives its end
     end_path : active g s.values q ≡ true → HasValueAt (ends_of g f q).paths (Some (end_in t q)) s
     end_path on =
-        let x = the_path g.faults (ends_of g f q).paths (ends_tree g f has q k).each s few in (
-          x.0,
-          x.1,
-          (lines.ends q k sooner).value x.0 x.1 ∙ has_end g order frozen s t run q k on
+        let its_path = the_path g.faults (ends_of g f q).paths (ends_tree g f has q k).each s few in (
+          its_path.0,
+          its_path.1,
+          (lines.ends q k sooner).value its_path.0 its_path.1 ∙ has_end g order frozen s t run q k on
               ∙ ap (λ n. Some n) (sym (end_active g order frozen s t run q k on)),
         )
 
@@ -139,12 +139,12 @@ module _ (g : Graph) (limits : IsWithinLimits g) (order : List ℕ) (topological
   end_at : (q : ℕ) → IsBetween g order (node_of g p) from (place order p) q → active g s.values q ≡ true → (n : ℕ) →
       n ≤ end_in t q →
       HasEndAt g order f from p s n
-  end_at q b on n less = record {
+  end_at q stands on n no_later = record {
     process = q;
-    between = b;
+    between = stands;
     time = end_in t q;
-    has = end_path q b.within b.sooner on;
-    late = let exact = later_exact (Some (end_in t q)) 0 (small.ends q) (omega arith) in omega (arith, exact, less);
+    has = end_path q stands.within stands.sooner on;
+    late = let exact = later_exact (Some (end_in t q)) 0 (small.ends q) (omega arith) in omega (arith, exact, no_later);
   }
 
   -- if a process stands before `from`, there is one between `from` and p that is active in this scenario: the one that
@@ -155,17 +155,18 @@ module _ (g : Graph) (limits : IsWithinLimits g) (order : List ℕ) (topological
   -- either `from` is 0, before which nothing stands, or the cut names a process that is always active
   cut_at q less = elim cut [
     | inl none ↦ absurd (omega (arith, less, none))
-    | inr c ↦ (
-      c.0,
-      c.1,
-      sym (ap is_active ((are c.0 c.1.within).is s.values law.values)) ∙ always_acts (tree_of guards c.0) s.values c.2,
-      omega (arith, less, c.1.after),
+    | inr cut_by ↦ (
+      cut_by.0,
+      cut_by.1,
+      sym (ap is_active ((are cut_by.0 cut_by.1.within).is s.values law.values))
+          ∙ always_acts (tree_of guards cut_by.0) s.values cut_by.2,
+      omega (arith, less, cut_by.1.after),
     )
   ]
 
   -- in the run no active process ends before it starts
   time_before_end : (z : ℕ) → z < process_count g → active g s.values z ≡ true → time_in t z ≤ end_in t z
-  time_before_end z k on = omega (arith, end_active g order frozen s t run z k on)
+  time_before_end z below on = omega (arith, end_active g order frozen s t run z below on)
 
   -- an active process before p on its node has ended once one between `from` and p has: that process itself, or one
   -- that waits for it
@@ -173,46 +174,47 @@ module _ (g : Graph) (limits : IsWithinLimits g) (order : List ℕ) (topological
       active g s.values q ≡ true →
       HasEndAt g order f from p s (end_in t q)
   -- by whether q stands at `from` or later, or before it
-  before_ended q k sooner there on = elim (cases_lt (place order q) from) [
+  before_ended q below sooner there on = elim (cases_lt (place order q) from) [
     | inr from_on ↦
-        end_at q (record { within = k; there = there; after = from_on; sooner = sooner }) on (end_in t q) (omega arith)
+        end_at q (record { within = below; there = there; after = from_on; sooner = sooner }) on (end_in t q)
+        (omega arith)
     | inl less ↦
-        let z = cut_at q less in
-        end_at z.0 z.1 z.2 (end_in t q) (omega (
+        let cutter = cut_at q less in
+        end_at cutter.0 cutter.1 cutter.2 (end_in t q) (omega (
           arith,
-          before_below g order frozen s t run z.0 q z.1.within z.2
-              (before_in g order topological s t z.0 q k z.3 (there ∙ sym z.1.there)) on,
-          time_before_end z.0 z.1.within z.2,
+          before_below g order frozen s t run cutter.0 q cutter.1.within cutter.2
+              (before_in g order topological s t cutter.0 q below cutter.3 (there ∙ sym cutter.1.there)) on,
+          time_before_end cutter.0 cutter.1.within cutter.2,
         ))
   ]
 
   -- given: an input of p
-  module _ (e : ℕ) (c : Contains (inputs g p) e) where
+  module _ (e : ℕ) (is_input : Contains (inputs g p) e) where
     -- the edge is one of the graph, and leads to p
     edge_of : (e < edge_count g) × (target g e ≡ p)
-    edge_of = inputs_parts g p e c
+    edge_of = inputs_parts g p e is_input
 
     -- its message is an item of the graph
     item_within : message_item g e < item_count g
-    item_within = let n = edge_of.0 in omega arith
+    item_within = let below = edge_of.0 in omega arith
 
     -- the producer of its message stands before p
     earlier : place order (producer g (message_item g e)) < place order p
-    earlier = let n = ap (place order) (producer_of_message g e edge_of.0) in
-        omega (arith, n, input_goes_up g order topological p e c)
+    earlier = let same_place = ap (place order) (producer_of_message g e edge_of.0) in
+        omega (arith, same_place, input_goes_up g order topological p e is_input)
 
     -- if an input from another node is sent as a message, the input is live
     item_is : item_active g s.values (item_at g (message_item g e)) ≡ true → is_message g e ≡ true →
         live g s.values e ≡ true
-    item_is acts m = (and_parts (is_message g e) (live g s.values e)
+    item_is acts sent = (and_parts (is_message g e) (live g s.values e)
         (subst (λ x. item_active g s.values x ≡ true) (item_at-message g e edge_of.0) acts)).1
 
     -- given: an input from another node
-    module _ (m : is_message g e ≡ true) where
+    module _ (sent : is_message g e ≡ true) where
       -- if the input is live, its message is sent
       acts : live g s.values e ≡ true → item_active g s.values (item_at g (message_item g e)) ≡ true
       acts lives = subst (λ x. item_active g s.values x ≡ true) (sym (item_at-message g e edge_of.0))
-          (and_from (is_message g e) (live g s.values e) m lives)
+          (and_from (is_message g e) (live g s.values e) sent lives)
 
       -- the message of a live input has a time in the run, and the input is there a frame's length after it
       comes : live g s.values e ≡ true →
@@ -220,36 +222,36 @@ module _ (g : Graph) (limits : IsWithinLimits g) (order : List ℕ) (topological
           (input_there g t e ≡ time_later (input_delay g e) (Some time))
       -- an active message has a time in a run, and the delay of such an input is its slot's length
       comes lives =
-          let is = has_time g order frozen s t run (message_item g e) item_within (acts lives) in (
+          let has_its_time = has_time g order frozen s t run (message_item g e) item_within (acts lives) in (
             time_in t (message_item g e),
-            is,
+            has_its_time,
             sym (input_exact g limits t small e)
                 ∙ ap (time_later (input_delay g e)) (ap (λ (b : Bool). if b then get_or t.times (message_item g e) None
-                else get_or t.ends (source g e) None) m ∙ is),
+                else get_or t.ends (source g e) None) sent ∙ has_its_time),
           )
 
       -- the tree of the input gives the message's time
-      its_value : (x : Path (Option ℕ)) → IsOnPath (input_tree g f e).paths s x →
-          x.1 ≡ get_or t.times (message_item g e) None
-      its_value x on = (lines.times (message_item g e) item_within earlier).value x
+      its_value : (path : Path (Option ℕ)) → IsOnPath (input_tree g f e).paths s path →
+          path.1 ≡ get_or t.times (message_item g e) None
+      its_value path on = (lines.times (message_item g e) item_within earlier).value path
           (subst (λ (b : Bool).
-          IsOnPath (if b then times_of g f (message_item g e) else ends_of g f (source g e)).paths s x) m on)
+          IsOnPath (if b then times_of g f (message_item g e) else ends_of g f (source g e)).paths s path) sent on)
 
       -- the tree has such a path in this scenario
       its_path : (x : Path (Option ℕ)) × IsOnPath (input_tree g f e).paths s x ×
           (x.1 ≡ get_or t.times (message_item g e) None)
       its_path =
-          let x = the_path g.faults (times_of g f (message_item g e)).paths
+          let found_path = the_path g.faults (times_of g f (message_item g e)).paths
           (times_tree g f has (message_item g e) item_within).each s (scenario_few g s law) in
           let on = subst (λ (b : Bool). IsOnPath (if b then times_of g f (message_item g e)
-          else ends_of g f (source g e)).paths s x.0) (sym m) x.1 in
-          (x.0, on, its_value x.0 on)
+          else ends_of g f (source g e)).paths s found_path.0) (sym sent) found_path.1 in
+          (found_path.0, on, its_value found_path.0 on)
 
     -- given: a live input of the node itself
     module _ (own : is_message g e ≡ false) (lives : live g s.values e ≡ true) where
       -- true isn't false
       untrue : true ≡ false → ⊥
-      untrue i = cc
+      untrue equal = cc
 
       -- its source is on p's node
       same_node : node_of g (source g e) ≡ node_of g p
@@ -265,14 +267,14 @@ module _ (g : Graph) (limits : IsWithinLimits g) (order : List ℕ) (topological
           ap (λ (b : Bool). if b then frame_there g t (message_item g e) else end_in t (source g e)) own in
           subst (HasEndAt g order f from p s) (sym is)
           (before_ended (source g e) (source_in_order g order topological e edge_of.0)
-          (input_goes_up g order topological p e c) same_node (and_parts _ _ lives).0)
+          (input_goes_up g order topological p e is_input) same_node (and_parts _ _ lives).0)
 
   -- given: a process at p's place or before it
-  module _ (q : ℕ) (k : q < process_count g) (no_later : place order q ≤ place order p) where
+  module _ (q : ℕ) (below : q < process_count g) (no_later : place order q ≤ place order p) where
     -- the trees give the times of what stands before q, since that stands before p too
     valued_there : HasTreeValues g order rows s t (place order q) f
     valued_there = record {
-      ends = λ z h less on. valued.ends z h (omega (arith, less, no_later)) on;
+      ends = λ z z_below less on. valued.ends z z_below (omega (arith, less, no_later)) on;
       sends = λ x h big less on. valued.sends x h big (omega (arith, less, no_later)) on;
     }
 
@@ -280,29 +282,29 @@ module _ (g : Graph) (limits : IsWithinLimits g) (order : List ℕ) (topological
     on_its_way : (c : ℕ) → c < condition_count g → decides g s.values q c ≡ true →
         Contains (way (tree_of guards q) s.values) c
     on_its_way c low d = subst (λ cs. Contains cs c)
-        (sym (ways_are_deciding g urgency q (tree_of guards q) s.values is_urgency urgent (are q k) law.values))
+        (sym (ways_are_deciding g urgency q (tree_of guards q) s.values is_urgency urgent (are q below) law.values))
         (Contains-filter (decides g s.values q) (conditions_along g urgency) c d
         (Contains-along g urgency urgent c low))
 
   -- given: such a process, and a condition that its guard tests in this scenario
-  module _ (q : ℕ) (k : q < process_count g) (no_later : place order q ≤ place order p) (c : ℕ)
-      (j : Contains (way (tree_of guards q) s.values) c) where
+  module _ (q : ℕ) (below : q < process_count g) (no_later : place order q ≤ place order p) (c : ℕ)
+      (tested : Contains (way (tree_of guards q) s.values) c) where
     -- a condition that q's guard tests on the way decides q
     decides_there : Contains (deciding g s.values q) c
     decides_there = on_way g limits order topological joins urgency is_urgency urgent rows s law.values few t small f q
-        k nodes (valued_there q k no_later) (tree_of guards q) (are q k) c j
+        below nodes (valued_there q below no_later) (tree_of guards q) (are q below) c tested
 
     -- so it is one of the graph's conditions
     decides_it : (c < condition_count g) × (decides g s.values q c ≡ true)
     decides_it =
-        let r = Contains-filter_parts (decides g s.values q) (numbers_below (condition_count g)) c decides_there in
-        (numbers-Contains (condition_count g) c r.0, r.1)
+        let parts = Contains-filter_parts (decides g s.values q) (numbers_below (condition_count g)) c decides_there in
+        (numbers-Contains (condition_count g) c parts.0, parts.1)
 
     -- the tree from which it follows when q's node hears the condition gives the run's time
     line_of : HasValueFrom s (heard_support g order topological rows s (node_of g q) c)
         (heard_time g limits t small (node_of g q) c) (heard_tree g f (node_of g q) c)
     line_of = heard_valued g limits order topological joins urgency is_urgency urgent rows s law.values few t small f q
-        k nodes (valued_there q k no_later) (tree_of guards q) (are q k) c j
+        below nodes (valued_there q below no_later) (tree_of guards q) (are q below) c tested
 
     -- the node has heard the condition
     when_heard : (time : ℕ) × (heard_time g limits t small (node_of g q) c ≡ Some time)
@@ -312,16 +314,16 @@ module _ (g : Graph) (limits : IsWithinLimits g) (order : List ℕ) (topological
         by : (b : Bool) → (node_of g (process_of g c) == node_of g q) ≡ b →
             (time : ℕ) ×
             ((if b then get_or t.ends (process_of g c) None else get_or t.times (broadcast_item g c) None) ≡ Some time)
-        by true e = (
+        by true is_b = (
           _,
           has_end g order frozen s t run (process_of g c) (process_of_below g c decides_it.0)
               (deciding_is_active g urgency is_urgency urgent s.values q c decides_it.0 decides_it.1),
         )
-        by false e = (
+        by false is_b = (
           _,
           has_time g order frozen s t run (broadcast_item g c) (hears_earlier g order topological s q c decides_there).0
-              (frame_sent g s q k nodes c decides_it.0
-              (deciding_is_active g urgency is_urgency urgent s.values q c decides_it.0 decides_it.1) e),
+              (frame_sent g s q below nodes c decides_it.0
+              (deciding_is_active g urgency is_urgency urgent s.values q c decides_it.0 decides_it.1) is_b),
         )
 
     -- the tree has a time in this scenario, and q's node has heard the condition a delay after it
@@ -329,19 +331,19 @@ module _ (g : Graph) (limits : IsWithinLimits g) (order : List ℕ) (topological
         (heard_there g t (node_of g q) c ≡ time_later (heard_delay g (node_of g q) c) (Some time))
     -- the scenario's path in the tree has the time at which the condition was heard in the run, less the delay
     heard_path =
-        let r = when_heard in
-        let x = the_path g.faults (heard_tree g f (node_of g q) c).paths
+        let heard = when_heard in
+        let path = the_path g.faults (heard_tree g f (node_of g q) c).paths
         (heard_each g f has (node_of g q) c decides_it.0) s few in (
-          r.0,
-          (x.0, x.1, line_of.value x.0 x.1 ∙ r.1),
-          sym (heard_exact g limits t small (node_of g q) c) ∙ ap (time_later (heard_delay g (node_of g q) c)) r.1,
+          heard.0,
+          (path.0, path.1, line_of.value path.0 path.1 ∙ heard.1),
+          sym (heard_exact g limits t small (node_of g q) c) ∙ ap (time_later (heard_delay g (node_of g q) c)) heard.1,
         )
 
     -- a delay after any time that the tree has in this scenario, q's node has heard the condition
     heard_value : (time : ℕ) → HasValueAt (heard_tree g f (node_of g q) c).paths (Some time) s →
         heard_there g t (node_of g q) c ≡ time_later (heard_delay g (node_of g q) c) (Some time)
-    heard_value time h = sym (heard_exact g limits t small (node_of g q) c)
-        ∙ ap (time_later (heard_delay g (node_of g q) c)) (sym (line_of.value h.0 h.1) ∙ h.2)
+    heard_value time in_tree = sym (heard_exact g limits t small (node_of g q) c)
+        ∙ ap (time_later (heard_delay g (node_of g q) c)) (sym (line_of.value in_tree.0 in_tree.1) ∙ in_tree.2)
 
   -- given: a process of p's node at p's place or before it, and a condition that decides it
   -- `q`, `k`, `there`, `no_later`: the process; `c`, `low`, `d`: a condition that decides q in this scenario
@@ -357,8 +359,8 @@ module _ (g : Graph) (limits : IsWithinLimits g) (order : List ℕ) (topological
     -- if q stands at `from` or after it, q's guard tests c, and p's node hears c by the time of c's tree
     heard_at : from ≤ place order q → IsHeardAt g order guards f from p s t c
     heard_at after =
-        let j = on_its_way q k no_later c low d in
-        let r : Heard (node_of g p) = subst Heard there (heard_path q k no_later c j) in
+        let tests_c = on_its_way q k no_later c low d in
+        let heard : Heard (node_of g p) = subst Heard there (heard_path q k no_later c tests_c) in
         record {
           below = low;
           asked = record {
@@ -366,28 +368,28 @@ module _ (g : Graph) (limits : IsWithinLimits g) (order : List ℕ) (topological
             below = k;
             between = record { within = k; there = there; after = after; sooner = omega (arith, no_later) };
             tested =
-                tested_from (tree_of guards q) s.values c j;
+                tested_from (tree_of guards q) s.values c tests_c;
           };
-          time = r.0;
-          has = r.1;
-          is = r.2;
+          time = heard.0;
+          has = heard.1;
+          is = heard.2;
         }
 
     -- if q stands before `from`, c is heard by the end of a process between `from` and p, which waits for it
     heard_before : place order q < from → HasEndAt g order f from p s (heard_there g t (node_of g p) c)
     heard_before less =
-        let z = cut_at q less in
-        let in_order = before_in g order topological s t z.0 q k z.3 (there ∙ sym z.1.there) in
-        let there_too = Contains-flat_map (deciding g s.values) (before_on_node g order z.0 ++ z.0 ∷ []) q c
-        (Contains-append_left (before_on_node g order z.0) (z.0 ∷ []) q in_order)
+        let cutter = cut_at q less in
+        let in_order = before_in g order topological s t cutter.0 q k cutter.3 (there ∙ sym cutter.1.there) in
+        let there_too = Contains-flat_map (deciding g s.values) (before_on_node g order cutter.0 ++ cutter.0 ∷ []) q c
+        (Contains-append_left (before_on_node g order cutter.0) (cutter.0 ∷ []) q in_order)
         (Contains-filter (decides g s.values q) (numbers_below (condition_count g)) c d
         (Contains-numbers (condition_count g) c low)) in
-        end_at z.0 z.1 z.2 (heard_there g t (node_of g p) c)
+        end_at cutter.0 cutter.1 cutter.2 (heard_there g t (node_of g p) c)
         (omega (
           arith,
-          subst (λ n. heard_there g t n c ≤ time_in t z.0) z.1.there
-              (hearing_below g order frozen s t run z.0 c z.1.within z.2 there_too),
-          time_before_end z.0 z.1.within z.2,
+          subst (λ n. heard_there g t n c ≤ time_in t cutter.0) cutter.1.there
+              (hearing_below g order frozen s t run cutter.0 c cutter.1.within cutter.2 there_too),
+          time_before_end cutter.0 cutter.1.within cutter.2,
         ))
 
     -- so p's node hears c by such an end, or by the time of c's tree
@@ -403,16 +405,18 @@ module _ (g : Graph) (limits : IsWithinLimits g) (order : List ℕ) (topological
       HasEndAt g order f from p s (heard_there g t (node_of g p) c) ⊎
       IsHeardAt g order guards f from p s t c
   -- the condition decides a process before p on its node, or p itself
-  what_hears c j =
-      let q = Contains-flat_map_parts (deciding g s.values) (before_on_node g order p ++ p ∷ []) c j in
-      let r = Contains-filter_parts (decides g s.values q.0) (numbers_below (condition_count g)) c q.2 in
-      let low = numbers-Contains (condition_count g) c r.0 in
-      elim (Contains-append_cases (before_on_node g order p) (p ∷ []) q.0 q.1) [
-        | inl b ↦ let parts = before_parts g order topological s t p q.0 b in
-            heard_either q.0 parts.0 parts.2 (omega (arith, parts.1)) c low r.1
-        | inr b ↦ elim (Contains-cases p [] q.0 b) [
-          | inl e ↦ heard_either p l refl (omega arith) c low (subst (λ o. decides g s.values o c ≡ true) (sym e) r.1)
-          | inr none ↦ absurd (Contains-nil q.0 none)
+  what_hears c decides_one =
+      let chosen = Contains-flat_map_parts (deciding g s.values) (before_on_node g order p ++ p ∷ []) c decides_one in
+      let is_deciding = Contains-filter_parts (decides g s.values chosen.0) (numbers_below (condition_count g)) c
+      chosen.2 in
+      let low = numbers-Contains (condition_count g) c is_deciding.0 in
+      elim (Contains-append_cases (before_on_node g order p) (p ∷ []) chosen.0 chosen.1) [
+        | inl is_before ↦ let parts = before_parts g order topological s t p chosen.0 is_before in
+            heard_either chosen.0 parts.0 parts.2 (omega (arith, parts.1)) c low is_deciding.1
+        | inr is_p ↦ elim (Contains-cases p [] chosen.0 is_p) [
+          | inl is_first ↦ heard_either p l refl (omega arith) c low
+              (subst (λ o. decides g s.values o c ≡ true) (sym is_first) is_deciding.1)
+          | inr none ↦ absurd (Contains-nil chosen.0 none)
         ]
       ]
 
@@ -420,13 +424,14 @@ module _ (g : Graph) (limits : IsWithinLimits g) (order : List ℕ) (topological
   among : (q : ℕ) → q < process_count g → node_of g q ≡ node_of g p → place order q < place order p + 1 →
       Contains (before_on_node g order p ++ p ∷ []) q
   -- processes with the same place in the order are the same
-  among q k there sooner = elim (cases_lt (place order q) (place order p)) [
+  among q below there sooner = elim (cases_lt (place order q) (place order p)) [
     | inl less ↦
-        Contains-append_left (before_on_node g order p) (p ∷ []) q (before_in g order topological s t p q k less there)
+        Contains-append_left (before_on_node g order p) (p ∷ []) q
+        (before_in g order topological s t p q below less there)
     | inr more ↦ subst (Contains (before_on_node g order p ++ p ∷ []))
         (same_place order p q (Contains-order (process_count g) order topological.all p l)
-        (Contains-order (process_count g) order topological.all q k)
-        (let e : place order p ≡ place order q = omega (arith, sooner, more) in e))
+        (Contains-order (process_count g) order topological.all q below)
+        (let equal : place order p ≡ place order q = omega (arith, sooner, more) in equal))
         (Contains-append_right (before_on_node g order p) (p ∷ []) p (Contains-first p []))
   ]
 
@@ -437,29 +442,35 @@ module _ (g : Graph) (limits : IsWithinLimits g) (order : List ℕ) (topological
       HasValueAt (heard_tree g f (node_of g p) c).paths (Some time) s →
       time_later (heard_delay g (node_of g p) c) (Some time) ≤ greatest (start_bounds g order s t p)
   -- the condition decides that process, which is among those whose hearing bounds p's start
-  heard_in c time a h =
-      let q = a.process in
-      let b = a.between in
-      let no_later : place order q ≤ place order p = omega (arith, b.sooner) in
-      let j = tested_parts (tree_of guards q) s.values c a.tested in
-      let d = decides_it q b.within no_later c j in
-      let is = subst (λ n. HasValueAt (heard_tree g f n c).paths (Some time) s →
-      heard_there g t n c ≡ time_later (heard_delay g n c) (Some time)) b.there
-      (heard_value q b.within no_later c j time) h in
-      omega (arith, is, heard_in_bounds g order topological s t p q c (among q b.within b.there b.sooner) d.0 d.1)
+  heard_in c time asked in_tree =
+      let process = asked.process in
+      let between = asked.between in
+      let no_later : place order process ≤ place order p = omega (arith, between.sooner) in
+      let tested_there = tested_parts (tree_of guards process) s.values c asked.tested in
+      let decided = decides_it process between.within no_later c tested_there in
+      let heard_then = subst (λ n. HasValueAt (heard_tree g f n c).paths (Some time) s →
+      heard_there g t n c ≡ time_later (heard_delay g n c) (Some time)) between.there
+      (heard_value process between.within no_later c tested_there time) in_tree in
+      omega (
+        arith,
+        heard_then,
+        heard_in_bounds g order topological s t p process c
+            (among process between.within between.there between.sooner) decided.0 decided.1,
+      )
 
   -- nor earlier than the end of a process between `from` and p, by the tree of its ends
   ended_in : (q time : ℕ) → IsBetween g order (node_of g p) from (place order p) q →
       HasValueAt (ends_of g f q).paths (Some time) s →
       time_later 0 (Some time) ≤ greatest (start_bounds g order s t p)
-  ended_in q time b h =
-      let is = ended_is q b.within b.sooner time h in
-      let same : end_in t q ≡ time = ap (λ o. unwrap_or o 0) is in
+  ended_in q time between in_tree =
+      let its_end = ended_is q between.within between.sooner time in_tree in
+      let same : end_in t q ≡ time = ap (λ o. unwrap_or o 0) its_end in
       omega (
         arith,
         same,
-        end_in_bounds g order topological s t p q (before_in g order topological s t p q b.within b.sooner b.there)
-            (acts_end q b.within b.sooner time is),
+        end_in_bounds g order topological s t p q
+            (before_in g order topological s t p q between.within between.sooner between.there)
+            (acts_end q between.within between.sooner time its_end),
       )
 
   -- in this run the trees say all that p's start waits for
@@ -469,13 +480,15 @@ module _ (g : Graph) (limits : IsWithinLimits g) (order : List ℕ) (topological
     acts = λ x on. (actives s few).value x on ∙ ap is_active ((are p l).is s.values law.values);
     value = unfrozen_is g order topological s t p l;
     ends =
-        λ q c on. let parts = before_parts g order topological s t p q c in before_ended q parts.0 parts.1 parts.2 on;
+        λ q is_before on. let parts = before_parts g order topological s t p q is_before in
+        before_ended q parts.0 parts.1 parts.2 on;
     ended = ended_in;
     hears = what_hears;
     heard = heard_in;
-    comes = λ e c m lives. comes e c m lives;
-    lives = λ e time c m is. item_is e c ((time_parts g order frozen s t run (message_item g e) time is).1) m;
-    has_value = λ e c m. its_path e c m;
-    valued = λ e c m x on. its_value e c m x on;
-    own = λ e c m lives. own_there e c m lives;
+    comes = λ e is_input sent lives. comes e is_input sent lives;
+    lives = λ e time is_input sent is. item_is e is_input
+        ((time_parts g order frozen s t run (message_item g e) time is).1) sent;
+    has_value = λ e is_input sent. its_path e is_input sent;
+    valued = λ e is_input sent x on. its_value e is_input sent x on;
+    own = λ e is_input sent lives. own_there e is_input sent lives;
   }

@@ -29,7 +29,7 @@ use Rattle.cpg_expand.specs.Guarded.{awaited, latest_of, start_at}
 -- a time below 2^59 has room for a delay of at most 16,000,000,000, so the sum isn't cut off
 pub later_exact : (x : Option ℕ) (delay : ℕ) → unwrap_or x 0 < 2 ^ 59 → delay ≤ 16000000000 →
     time_later delay x ≡ unwrap_or x 0 + delay
-later_exact x delay h k = omega (arith, h, k)
+later_exact x delay early short = omega (arith, early, short)
 
 -- given: a graph within the limits, and small times
 module _ (g : Graph) (limits : IsWithinLimits g) (t : Times) (small : AreSmall t) where
@@ -82,8 +82,8 @@ module _ (g : Graph) (limits : IsWithinLimits g) (t : Times) (small : AreSmall t
       -- two functions that agree everywhere map a list alike
       same_map : (f h : ℕ → ℕ) (xs : List ℕ) → ((x : ℕ) → f x ≡ h x) → map f xs ≡ map h xs
       -- by induction on the list
-      same_map f h [] e = refl
-      same_map f h (x ∷ xs) e = ap₂ (λ y ys. y ∷ ys) (e x) (same_map f h xs e)
+      same_map f h [] same = refl
+      same_map f h (x ∷ xs) same = ap₂ (λ y ys. y ∷ ys) (same x) (same_map f h xs same)
 
   -- the latest of these times of some conditions is when the node has heard all of them in the run
   pub latest_heard : (node : ℕ) (cs : List ℕ) →
@@ -94,56 +94,56 @@ module _ (g : Graph) (limits : IsWithinLimits g) (t : Times) (small : AreSmall t
       -- two functions that agree everywhere map a list alike
       same_map : (f h : ℕ → ℕ) (xs : List ℕ) → ((x : ℕ) → f x ≡ h x) → map f xs ≡ map h xs
       -- by induction on the list
-      same_map f h [] e = refl
-      same_map f h (x ∷ xs) e = ap₂ (λ y ys. y ∷ ys) (e x) (same_map f h xs e)
+      same_map f h [] same = refl
+      same_map f h (x ∷ xs) same = ap₂ (λ y ys. y ∷ ys) (same x) (same_map f h xs same)
 
 -- ---- the inputs that a process waits for are the live ones
 
 -- if all elements pass a test, the filter keeps the list
 all_kept : (p : ℕ → Bool) (xs : List ℕ) → list_all p xs ≡ true → filter p xs ≡ xs
 -- by induction on the list
-all_kept p [] e = refl
-all_kept p (x ∷ xs) e = let r = and_parts (p x) (list_all p xs) e in
-    cond-true (p x) (x ∷ filter p xs) (filter p xs) r.0 ∙ ap (λ ys. x ∷ ys) (all_kept p xs r.1)
+all_kept p [] all_pass = refl
+all_kept p (x ∷ xs) all_pass = let parts = and_parts (p x) (list_all p xs) all_pass in
+    cond-true (p x) (x ∷ filter p xs) (filter p xs) parts.0 ∙ ap (λ ys. x ∷ ys) (all_kept p xs parts.1)
 
 -- false isn't true
 untrue : false ≡ true → ⊥
-untrue e = cc
+untrue equal = cc
 
 -- if ys, the live inputs of a join, are at most one, an active join awaits just these: its first live input
 awaited_first : (xs ys : List ℕ) → length ys ≤ 1 → is_active (by_first ys) ≡ true → awaited xs (by_first ys) ≡ ys
-awaited_first xs [] l on = absurd (untrue on)
-awaited_first xs (y ∷ []) l on = refl
-awaited_first xs (y ∷ z ∷ zs) l on = absurd (omega (arith, l))
+awaited_first xs [] few on = absurd (untrue on)
+awaited_first xs (y ∷ []) few on = refl
+awaited_first xs (y ∷ z ∷ zs) few on = absurd (omega (arith, few))
 
 -- a process that needs all inputs awaits them all, and all are live if it is active
 awaited_all : (is_live : ℕ → Bool) (xs : List ℕ) (b : Bool) → list_all is_live xs ≡ b →
     is_active (if b then Plain else Inactive) ≡ true →
     awaited xs (if b then Plain else Inactive) ≡ filter is_live xs
-awaited_all is_live xs true e on = sym (all_kept is_live xs e)
-awaited_all is_live xs false e on = absurd (untrue on)
+awaited_all is_live xs true is_b on = sym (all_kept is_live xs is_b)
+awaited_all is_live xs false is_b on = absurd (untrue on)
 
 -- an active activation awaits those of the inputs that are live
 pub awaited_is : (join : Bool) (xs : List ℕ) (is_live : ℕ → Bool) → (join ≡ true → length (filter is_live xs) ≤ 1) →
     is_active (activation_by join xs is_live) ≡ true →
     awaited xs (activation_by join xs is_live) ≡ filter is_live xs
-awaited_is true [] is_live h on = refl
-awaited_is false [] is_live h on = refl
-awaited_is true (e ∷ es) is_live h on = awaited_first (e ∷ es) (filter is_live (e ∷ es)) (h refl) on
-awaited_is false (e ∷ es) is_live h on = awaited_all is_live (e ∷ es) (list_all is_live (e ∷ es)) refl on
+awaited_is true [] is_live single on = refl
+awaited_is false [] is_live single on = refl
+awaited_is true (e ∷ es) is_live single on = awaited_first (e ∷ es) (filter is_live (e ∷ es)) (single refl) on
+awaited_is false (e ∷ es) is_live single on = awaited_all is_live (e ∷ es) (list_all is_live (e ∷ es)) refl on
 
 -- given: a process of a graph, and small times of one scenario
 -- `joins`: at most one input of a join is live; `s`, `long`, `t`, `small`: a scenario and its times
 module _ (g : Graph) (limits : IsWithinLimits g) (order : List ℕ) (topological : IsTopological g order)
     (joins : HasSingleJoins g) (s : Scenario) (long : length s.values ≡ condition_count g)
-    (t : Times) (small : AreSmall t) (p : ℕ) (l : p < process_count g) where
+    (t : Times) (small : AreSmall t) (p : ℕ) (below : p < process_count g) where
   -- an active process of the graph awaits those of its inputs that are live
   pub awaits_live : active g s.values p ≡ true →
       awaited (inputs g p) (activation g s.values p) ≡ filter (live g s.values) (inputs g p)
   awaits_live on =
-      let is = activation_is g order topological s.values p (omega (arith, l)) in
+      let is = activation_is g order topological s.values p (omega (arith, below)) in
       ap (awaited (inputs g p)) is ∙ awaited_is (process_at g p).join (inputs g p) (live g s.values)
-      (λ e. joins p s.values l e long) (subst (λ (a : Activation). is_active a ≡ true) is on)
+      (λ is_join. joins p s.values below is_join long) (subst (λ (a : Activation). is_active a ≡ true) is on)
 
   -- if p waits on its node until w, its start by the inputs that it awaits is that by its live inputs in the run
   pub start_exact : (w : ℕ) →
@@ -158,7 +158,7 @@ module _ (g : Graph) (limits : IsWithinLimits g) (order : List ℕ) (topological
           (if b then Some (max (max w (process_at g p).release) (latest_of (input_delay g) (input_time g limits t small)
           (awaited (inputs g p) (activation g s.values p)))) else None)
           ≡ (if b then Some (max (max w (process_at g p).release) (greatest (input_bounds g s t p))) else None)
-      go true e = ap (λ n. Some (max (max w (process_at g p).release) n))
+      go true acts = ap (λ n. Some (max (max w (process_at g p).release) n))
           (latest_inputs g limits t small (awaited (inputs g p) (activation g s.values p))
-          ∙ ap (λ es. greatest (map (input_there g t) es)) (awaits_live e))
-      go false e = refl
+          ∙ ap (λ es. greatest (map (input_there g t) es)) (awaits_live acts))
+      go false is_b = refl

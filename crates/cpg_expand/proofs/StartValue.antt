@@ -47,26 +47,28 @@ settled g order t i = record {
 settled_knows : (g : Graph) (order : List ℕ) (t : Times) (i : ℕ) → Knows g order t i (settled g order t i)
 unfolding settled
 settled_knows g order t i = record {
-  times = λ x l h. get_or-map-below (λ x. if nat_lt (place order (producer g x)) i then get_or t.times x None else None)
-      (item_count g) x None l ∙
-      cond-true _ (get_or t.times x None) None (lt-ltb (place order (producer g x)) i h);
-  later = λ x l h. get_or-map-below (λ x. if nat_lt (place order (producer g x)) i then get_or t.times x None else None)
-      (item_count g) x None l ∙
-      cond-false _ (get_or t.times x None) None (le-ltb (place order (producer g x)) i h);
-  ends = λ p l h. get_or-map-below (λ p. if nat_lt (place order p) i then get_or t.ends p None else None)
-      (process_count g) p None l ∙
-      cond-true _ (get_or t.ends p None) None (lt-ltb (place order p) i h);
-  no_ends = λ p l h. get_or-map-below (λ p. if nat_lt (place order p) i then get_or t.ends p None else None)
-      (process_count g) p None l ∙
-      cond-false _ (get_or t.ends p None) None (le-ltb (place order p) i h);
+  times = λ x below sooner. get_or-map-below
+      (λ x. if nat_lt (place order (producer g x)) i then get_or t.times x None else None)
+      (item_count g) x None below ∙
+      cond-true _ (get_or t.times x None) None (lt-ltb (place order (producer g x)) i sooner);
+  later = λ x below no_sooner. get_or-map-below
+      (λ x. if nat_lt (place order (producer g x)) i then get_or t.times x None else None)
+      (item_count g) x None below ∙
+      cond-false _ (get_or t.times x None) None (le-ltb (place order (producer g x)) i no_sooner);
+  ends = λ p below sooner. get_or-map-below (λ p. if nat_lt (place order p) i then get_or t.ends p None else None)
+      (process_count g) p None below ∙
+      cond-true _ (get_or t.ends p None) None (lt-ltb (place order p) i sooner);
+  no_ends = λ p below no_sooner. get_or-map-below (λ p. if nat_lt (place order p) i then get_or t.ends p None else None)
+      (process_count g) p None below ∙
+      cond-false _ (get_or t.ends p None) None (le-ltb (place order p) i no_sooner);
 }
 
 -- if an option is `n` where a test holds and none elsewhere, it is also `m` there and none elsewhere, for m the
 -- option's own number
 by_test : (b : Bool) (n m : ℕ) (o : Option ℕ) → o ≡ (if b then Some n else None) → (b ≡ true → m ≡ unwrap_or o 0) →
     (if b then Some m else None) ≡ o
-by_test true n m o is e = ap (λ k. Some k) (e refl ∙ ap (λ p. unwrap_or p 0) is) ∙ sym is
-by_test false n m o is e = sym is
+by_test true n m o is same = ap (λ k. Some k) (same refl ∙ ap (λ p. unwrap_or p 0) is) ∙ sym is
+by_test false n m o is same = sym is
 
 -- given: one scenario with its run, the guard of a process, and when its node is ready
 -- `urgency`, `is_urgency`, `urgent`: the urgency order; `frozen`, `s`, `long`, `t`, `run`: a scenario and its run
@@ -96,29 +98,30 @@ module _ (g : Graph) (order : List ℕ) (topological : IsTopological g order) (u
   -- a condition that decides p is heard at the time that is known, since its process is earlier
   same_heard : (c : ℕ) → c < condition_count g → decides g s.values p c ≡ true →
       heard_there g known (node_of g p) c ≡ heard_there g t (node_of g p) c
-  same_heard c low d = known_heard_of g order t (place order p) known knows (node_of g p) c low
-      (decided_sooner g order t (place order p) known knows topological s p l refl p c (omega arith) low d)
+  same_heard c low decides_p = known_heard_of g order t (place order p) known knows (node_of g p) c low
+      (decided_sooner g order t (place order p) known knows topological s p l refl p c (omega arith) low decides_p)
 
   -- so the latest of these times is known, too
   most_known : IsMost (λ c. (c < condition_count g) × (decides g s.values p c ≡ true))
       (heard_there g known (node_of g p)) (greatest (map (heard_there g t (node_of g p)) (way guard s.values)))
   most_known = record {
-    above = λ c d. omega (arith, most.above c d, same_heard c d.0 d.1);
-    least = λ b h. most.least b (λ c d. omega (arith, h c d, same_heard c d.0 d.1));
+    above = λ c decides_p. omega (arith, most.above c decides_p, same_heard c decides_p.0 decides_p.1);
+    least = λ b all_below. most.least b
+        (λ c decides_p. omega (arith, all_below c decides_p, same_heard c decides_p.0 decides_p.1));
   }
 
   -- the inputs are there at the times that are known, since their sources are earlier
   same_inputs : greatest (input_bounds g s known p) ≡ greatest (input_bounds g s t p)
   same_inputs =
-      let same = λ (e : ℕ) (j : Contains (filter (live g s.values) (inputs g p)) e).
+      let same = λ (e : ℕ) (is_input : Contains (filter (live g s.values) (inputs g p)) e).
       known_input g order t (place order p) known knows topological s p l refl e
-      (Contains-filter_parts (live g s.values) (inputs g p) e j).0 in
+      (Contains-filter_parts (live g s.values) (inputs g p) e is_input).0 in
       omega (
         arith,
         greatest-map-le (input_there g known) (input_there g t) (filter (live g s.values) (inputs g p))
-            (λ e j. omega (arith, same e j)),
+            (λ e is_input. omega (arith, same e is_input)),
         greatest-map-le (input_there g t) (input_there g known) (filter (live g s.values) (inputs g p))
-            (λ e j. omega (arith, same e j)),
+            (λ e is_input. omega (arith, same e is_input)),
       )
 
   -- until when p waits on its node: that the node is ready, and has heard all conditions on the guard's way
@@ -160,8 +163,8 @@ module _ (g : Graph) (order : List ℕ) (topological : IsTopological g order) (u
 -- the end after a start is the start with its duration: both are so small that the sum isn't cut off
 ended_by : (ds : List ℕ) (n d : ℕ) (o : Option ℕ) → get_or ds n 0 ≡ d → d < 2 ^ 40 → unwrap_or o 0 < 2 ^ 59 →
     ended ds n o ≡ option_map (λ start. start + d) o
-ended_by ds n d None e h k = refl
-ended_by ds n d (Some start) e h k = ap (λ m. Some m) (omega (arith, e, h, k))
+ended_by ds n d None is_d short early = refl
+ended_by ds n d (Some start) is_d short early = ap (λ m. Some m) (omega (arith, is_d, short, early))
 
 -- given: one scenario with its run, and a process that has no more faults than the graph allows
 -- `frozen`, `s`, `law`, `t`, `run`, `small`: a scenario and its run with small times
@@ -171,7 +174,7 @@ module _ (g : Graph) (limits : IsWithinLimits g) (order : List ℕ) (frozen : Li
     (p : ℕ) (l : p < process_count g) (few : fault_of s p ≤ g.faults) where
   -- the number of the variable p in the scenario is p's fault count
   count_is : number_of s p ≡ fault_of s p
-  count_is = cond-true _ (fault_of s p) _ (lt-ltb p 128 (let m = limits.few_processes in omega arith))
+  count_is = cond-true _ (fault_of s p) _ (lt-ltb p 128 (let few_processes = limits.few_processes in omega arith))
 
   -- the start with the duration for that number is p's end in the run
   pub end_value : ended (durations_of g p) (number_of s p) (get_or t.times p None) ≡ get_or t.ends p None

@@ -55,7 +55,7 @@ module _ {T U V : Type 0} (g : Graph) (number : T → ℕ) (other_number : U →
       (of_b.faults ∙ sym of_chooser.faults)
       (each_of g chooser.faults chooser of_chooser.faults of_chooser)
       (each_of g chooser.faults a of_chooser.faults of_a) (each_of g chooser.faults b of_chooser.faults of_b)
-      made (λ v w z d e i. i ∙ ap₂ (λ m n. makes (max m n)) d e) on has_value other
+      made (λ v w z is_x is_y is_made. is_made ∙ ap₂ (λ m n. makes (max m n)) is_x is_y) on has_value other
 
   -- the same with the two trees turned: the literals and the number of b stand first
   made_where_turned : (by_a by_b : List Literal) (x y : ℕ) → HasValueFrom s chosen_by true chooser →
@@ -67,11 +67,11 @@ module _ {T U V : Type 0} (g : Graph) (number : T → ℕ) (other_number : U →
       agrees_weaker s t (chosen_by ++ (by_a ++ by_b)) (chosen_by ++ (by_b ++ by_a)) (λ z. z ≡ makes (max x y))
       (λ z. z ≡ makes (max y x))
       (support_as_first chosen_by (by_a ++ by_b) (by_b ++ by_a)
-      (λ l j. elim (Contains-append_cases by_a by_b l j) [
-        | inl i ↦ Contains-append_right by_b by_a l i
-        | inr i ↦ Contains-append_left by_b by_a l i
+      (λ literal listed. elim (Contains-append_cases by_a by_b literal listed) [
+        | inl in_first ↦ Contains-append_right by_b by_a literal in_first
+        | inr in_second ↦ Contains-append_left by_b by_a literal in_second
       ]))
-      (λ z e. e ∙ ap makes (let same : max x y ≡ max y x = omega arith in same))
+      (λ z equal. equal ∙ ap makes (let same : max x y ≡ max y x = omega arith in same))
       (made_where by_a by_b x y on has_value other)
 
   -- where the chooser is false, t has `none`, by the chooser's literals alone
@@ -154,7 +154,10 @@ module _ (g : Graph) (f : ForestState) (chooser : TreeState Bool) (wait : TreeSt
         picked s few true chosen_by (base ++ []) (Some (max (max x release) 0)) of_c
         (starts s few base x has_value support time there heard);
     off = λ s few chosen_by of_c. agrees_weaker s t (chosen_by ++ []) chosen_by (λ y. y ≡ None) (λ y. y ≡ None)
-        (λ l j. elim (Contains-append_cases chosen_by [] l j) [ inl i ↦ i | inr i ↦ absurd (Contains-nil l i) ]) (λ y e. e)
+        (λ literal listed. elim (Contains-append_cases chosen_by [] literal listed) [
+          | inl in_first ↦ in_first
+          | inr in_second ↦ absurd (Contains-nil literal in_second)
+        ]) (λ y equal. equal)
         (picked s few false chosen_by [] None of_c (agrees_constant s None g.faults never (λ y. y ≡ None) refl none));
   }
     where
@@ -237,7 +240,8 @@ active_starts g f chooser wait release inputs guard t all actives starts s few b
         ((e : ℕ) → Contains (awaited inputs a) e → HasValueFrom s (support e) (time e) (input_tree g f e)) →
         HasValueFrom s (values ++ start_literals base support inputs a)
         (start_at x release (input_delay g) time inputs a) t
-    by Plain w active ready heard = starts.on s few values active base x has_value support time ready heard
-    by Inactive w active ready heard = agrees_weaker s t values (values ++ []) (λ y. y ≡ None) (λ y. y ≡ None)
-        (λ l j. Contains-append_left values [] l j) (λ y e. e) (starts.off s few values active)
-    by (By e) w active ready heard = absurd w
+    by Plain waits active ready heard = starts.on s few values active base x has_value support time ready heard
+    by Inactive waits active ready heard = agrees_weaker s t values (values ++ []) (λ y. y ≡ None) (λ y. y ≡ None)
+        (λ literal listed. Contains-append_left values [] literal listed) (λ y equal. equal)
+        (starts.off s few values active)
+    by (By e) waits active ready heard = absurd waits

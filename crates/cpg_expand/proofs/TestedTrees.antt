@@ -22,7 +22,7 @@ pub tested_first : (k c : ℕ) (off on : Guard) (wanted : ℕ) (t : TreeState Bo
 tested_first k c off on wanted t same always s few =
     agrees_weaker s t [] (values_known s (way (Test c off on) s.values))
     (λ y. y ≡ is_tested (Test c off on) s.values wanted) (λ y. y ≡ is_tested (Test c off on) s.values wanted)
-    (λ l j. absurd (Contains-nil l j)) (λ y e. e)
+    (λ literal listed. absurd (Contains-nil literal listed)) (λ y equal. equal)
     (agrees_constant s true k t (λ y. y ≡ is_tested (Test c off on) s.values wanted) (sym found) always)
   where
     -- the condition is found on the way, as the first test
@@ -42,16 +42,16 @@ tested_further k c off on wanted f y t other of_off of_on picks s few = go (get_
     go : (d : Bool) → get_or s.values c false ≡ d →
         HasValueFrom s (values_known s (c ∷ (if d then way on s.values else way off s.values)))
         (list_any (λ e. e == wanted) (c ∷ (if d then way on s.values else way off s.values))) t
-    go true e = subst (λ (b : Bool). HasValueFrom s (values_known s (c ∷ way on s.values))
+    go true c_true = subst (λ (b : Bool). HasValueFrom s (values_known s (c ∷ way on s.values))
         (b || list_any (λ e. e == wanted) (way on s.values)) t) (sym (ne_eqb c wanted other))
         (picks s few (values_known s (way on s.values)) (is_tested on s.values wanted)
         (subst (λ (d : Bool). HasValueFrom s (values_known s (way on s.values)) (is_tested on s.values wanted)
-        (if d then y else f)) (sym e) (of_on s few)))
-    go false e = subst (λ (b : Bool). HasValueFrom s (values_known s (c ∷ way off s.values))
+        (if d then y else f)) (sym c_true) (of_on s few)))
+    go false c_false = subst (λ (b : Bool). HasValueFrom s (values_known s (c ∷ way off s.values))
         (b || list_any (λ e. e == wanted) (way off s.values)) t) (sym (ne_eqb c wanted other))
         (picks s few (values_known s (way off s.values)) (is_tested off s.values wanted)
         (subst (λ (d : Bool). HasValueFrom s (values_known s (way off s.values)) (is_tested off s.values wanted)
-        (if d then y else f)) (sym e) (of_off s few)))
+        (if d then y else f)) (sym c_false) (of_off s few)))
 
 -- ---- what is tested is on the way
 

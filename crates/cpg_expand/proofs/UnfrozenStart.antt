@@ -25,22 +25,23 @@ module _ (g : Graph) (order : List ℕ) (topological : IsTopological g order) (s
 
   -- each bound of the start is no later
   bound : (b : ℕ) → Contains (start_bounds g order s t p) b → b ≤ least_start
-  bound b k = greatest_above (start_bounds g order s t p) b k
+  bound b listed = greatest_above (start_bounds g order s t p) b listed
 
   -- a process of p's node that stands before p is among those before p on its node
   pub before_in : (q : ℕ) → q < process_count g → place order q < place order p → node_of g q ≡ node_of g p →
       Contains (before_on_node g order p) q
-  before_in q k less same = Contains-filter (λ (u : ℕ). node_of g u == node_of g p) (before order p) q (eq-eqb _ _ same)
-      (Contains-before order q p (Contains-order (process_count g) order topological.all q k) less)
+  before_in q below less same =
+      Contains-filter (λ (u : ℕ). node_of g u == node_of g p) (before order p) q (eq-eqb _ _ same)
+      (Contains-before order q p (Contains-order (process_count g) order topological.all q below) less)
 
   -- each of those before p on its node is a process of p's node that stands before p
   pub before_parts : (q : ℕ) → Contains (before_on_node g order p) q →
       (q < process_count g) × (place order q < place order p) × (node_of g q ≡ node_of g p)
-  before_parts q c =
-      let o = on_node_before g order p q c in (
-        from_order (process_count g) order topological.all q o.0,
-        o.1,
-        eqb-true _ _ (Contains-filter_parts (λ (u : ℕ). node_of g u == node_of g p) (before order p) q c).1,
+  before_parts q listed =
+      let before_p = on_node_before g order p q listed in (
+        from_order (process_count g) order topological.all q before_p.0,
+        before_p.1,
+        eqb-true _ _ (Contains-filter_parts (λ (u : ℕ). node_of g u == node_of g p) (before order p) q listed).1,
       )
 
   -- the release is one of the bounds, so it is no later than their greatest
@@ -49,34 +50,34 @@ module _ (g : Graph) (order : List ℕ) (topological : IsTopological g order) (s
 
   -- no live input is there later than the greatest of the bounds
   pub inputs_in : greatest (input_bounds g s t p) ≤ greatest (start_bounds g order s t p)
-  inputs_in = greatest-le (input_bounds g s t p) least_start (λ v k. bound v
+  inputs_in = greatest-le (input_bounds g s t p) least_start (λ v listed. bound v
       (Contains-rest _ _ _ (Contains-append_left (input_bounds g s t p ++ processor_bounds g order s t p)
       (hearing_bounds g order s t p) v
-      (Contains-append_left (input_bounds g s t p) (processor_bounds g order s t p) v k))))
+      (Contains-append_left (input_bounds g s t p) (processor_bounds g order s t p) v listed))))
 
   -- no active process before p on its node ends later than the greatest of the bounds
   pub end_in_bounds : (q : ℕ) → Contains (before_on_node g order p) q → active g s.values q ≡ true →
       end_in t q ≤ greatest (start_bounds g order s t p)
-  end_in_bounds q k acts = bound (end_in t q)
+  end_in_bounds q listed acts = bound (end_in t q)
       (Contains-rest _ _ _ (Contains-append_left (input_bounds g s t p ++ processor_bounds g order s t p)
       (hearing_bounds g order s t p) (end_in t q)
       (Contains-append_right (input_bounds g s t p) (processor_bounds g order s t p) (end_in t q)
       (Contains-map (end_in t) (filter (active g s.values) (before_on_node g order p)) q
-      (Contains-filter (active g s.values) (before_on_node g order p) q acts k)))))
+      (Contains-filter (active g s.values) (before_on_node g order p) q acts listed)))))
 
   -- no condition that decides one of these or p is heard on the node later than the greatest of the bounds
   pub heard_in_bounds : (q c : ℕ) → Contains (before_on_node g order p ++ p ∷ []) q → c < condition_count g →
       decides g s.values q c ≡ true →
       heard_there g t (node_of g p) c ≤ greatest (start_bounds g order s t p)
-  heard_in_bounds q c k h d = bound (heard_there g t (node_of g p) c)
+  heard_in_bounds q c listed below decides_c = bound (heard_there g t (node_of g p) c)
       (Contains-rest _ _ _ (Contains-append_right (input_bounds g s t p ++ processor_bounds g order s t p)
       (hearing_bounds g order s t p) (heard_there g t (node_of g p) c)
       (Contains-map (heard_there g t (node_of g p))
       (flat_map (deciding g s.values) (before_on_node g order p ++ p ∷ [])) c
-      (Contains-flat_map (deciding g s.values) (before_on_node g order p ++ p ∷ []) q c k
-      (Contains-filter (decides g s.values q) (numbers_below (condition_count g)) c d
-      (Contains-numbers (condition_count g) c h))))))
+      (Contains-flat_map (deciding g s.values) (before_on_node g order p ++ p ∷ []) q c listed
+      (Contains-filter (decides g s.values q) (numbers_below (condition_count g)) c decides_c
+      (Contains-numbers (condition_count g) c below))))))
 
   -- the greatest of the bounds is the time that p's start would have if it weren't frozen
   pub unfrozen_is : p < process_count g → unfrozen_time g order s t p ≡ greatest (start_bounds g order s t p)
-  unfrozen_is l = ap (λ j. greatest (bounds_of_item g order s t p j)) (item_at-start g p l)
+  unfrozen_is below = ap (λ j. greatest (bounds_of_item g order s t p j)) (item_at-start g p below)

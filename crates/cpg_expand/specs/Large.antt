@@ -78,8 +78,8 @@ IsLargeOf g p f guard wait =
 -- The wait is made, and a tree that is made from it has too many leaves: one of the wait with inputs, or that of the
 -- starts or the ends.
 pub record IsLargeAfter (g : Graph) (p : ℕ) (f : ForestState) (guard : Guard) : Type 0 where
-  pub wait : TreeState ℕ
   -- the tree of when p's node is ready and has heard what the guard tests
+  pub wait : TreeState ℕ
   pub waits : IsWaitTree g f (node_of g p) guard wait
   -- the large tree is on the way to the starts, or it is that of the starts or the ends
   pub large : IsLargeStart g f wait (process_at g p).release (inputs g p) guard ⊎ IsLargeOf g p f guard wait

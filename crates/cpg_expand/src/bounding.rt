@@ -1,7 +1,14 @@
 //! The limit on the leaves of a tree, which counts only if there is an item to name.
-ghost use Rattle.std.specs.Prelude.{◌≡◌, IfErr};
-ghost use Rattle.cpg_expand.specs.Large.{IsLarge, ShowsLarge};
+ghost use Rattle.std.specs.Prelude.{◌≡◌, ◌<◌, IfErr, length};
+ghost use Rattle.cpg_base.specs.Graph.{process_count};
+ghost use Rattle.cpg_bus.specs.Plan.{plan_of};
+ghost use Rattle.cpg_expand.specs.Forest.{HasTrees};
+ghost use Rattle.cpg_expand.specs.Large.{HasLargeFree, HasLargeSend, IsLarge, IsLargeLeft, ShowsLarge};
 
+use crate::forest::Forest;
+use crate::waited::is_queued_from;
+use cpg_base::{Order, Problem};
+use cpg_bus::Plan;
 use cpg_run::BuildFault;
 use cpg_tree::Tree;
 
@@ -26,5 +33,64 @@ pub(crate) fn few<T: Copy>(tree: &Tree<T>, wide: Option<u32>) -> Result<(), Buil
     if tree.leaves() > MOST_LEAVES {
         return Err(BuildFault::TooWide(item));
     }
+    Ok(())
+}
+
+/// Answers `TooWide` of the forest's item if the tree of an item that the process sends has too many leaves.
+fn few_sent(problem: &Problem, plan: &Plan, forest: &Forest, process: u32) -> Result<(), BuildFault>
+    requires plan { plan.now ≡ plan_of problem.now }
+    requires process { process < process_count problem.now }
+    requires forest { HasTrees problem.now forest.now }
+    ensures { IfErr result (ShowsLarge forest.now.wide (HasLargeSend problem.now process forest.now)) }
+{
+    for item in plan.queue(problem, process) {
+        few(&forest.times[*item as usize], forest.wide)?;
+    }
+    Ok(())
+}
+
+/// Answers `TooWide` of the forest's item if the tree of when the node's slots are free has too many leaves and an
+/// item of a process at the place `at` or later waits for it.
+fn few_free(
+    problem: &Problem,
+    order: &Order,
+    forest: &Forest,
+    node: u32,
+    at: u32,
+) -> Result<(), BuildFault>
+    requires order { length order.now ≡ process_count problem.now }
+    requires node { node < length problem.now.nodes }
+    requires forest { HasTrees problem.now forest.now }
+    ensures { IfErr result (ShowsLarge forest.now.wide (HasLargeFree problem.now order.now at node forest.now)) }
+{
+    // without an item to name nothing is counted, and the look-up is spared
+    if forest.wide.is_none() {
+        return Ok(());
+    }
+    // no later item reads the tree
+    if !is_queued_from(problem, order, node, at) {
+        return Ok(());
+    }
+    few(&forest.free[node as usize], forest.wide)
+}
+
+/// Answers `TooWide` of the forest's item if a tree that the process leaves behind has too many leaves: one of what it
+/// sends, or that of when its node's slots are free.
+pub fn few_left(
+    problem: &Problem,
+    plan: &Plan,
+    order: &Order,
+    forest: &Forest,
+    process: u32,
+) -> Result<(), BuildFault>
+    requires plan { plan.now ≡ plan_of problem.now }
+    requires order { length order.now ≡ process_count problem.now }
+    requires process { process < process_count problem.now }
+    requires forest { HasTrees problem.now forest.now }
+    ensures { IfErr result (ShowsLarge forest.now.wide (IsLargeLeft problem.now order.now process forest.now)) }
+{
+    few_sent(problem, plan, forest, process)?;
+    let node = problem.node_of(process);
+    few_free(problem, order, forest, node, order.place(process) + 1)?;
     Ok(())
 }

@@ -13,7 +13,7 @@ use std::alloc::Global;
 
 /// The processes of a node from the place `from` of an order on, with the guards of the graph.
 #[derive(Clone, Copy)]
-pub(crate) struct NodeSpan<'a> {
+pub struct NodeSpan<'a> {
     /// The graph.
     pub(crate) problem: &'a Problem,
     /// The guard of each process of the graph.
@@ -85,7 +85,7 @@ fn cut(span: &NodeSpan<'_>, to: u32) -> u32
 
 /// Returns a span of the node that has all its processes before the place `to` that have to be looked at: its `from` is
 /// as in `cut`.
-pub(crate) fn span_before<'a>(
+pub fn span_before<'a>(
     problem: &'a Problem,
     guards: &'a GuardTrees,
     order: &'a Order,

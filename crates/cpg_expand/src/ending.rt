@@ -1,15 +1,18 @@
 //! The ends of processes, and when their nodes go on after them.
-ghost use Rattle.std.specs.Prelude.{◌≡◌, ◌+◌, ◌<◌, IfOk, map};
+ghost use Rattle.std.specs.Prelude.{◌≡◌, ◌+◌, ◌<◌, IfErr, IfOk, map};
 ghost use Rattle.cpg_base.specs.Duration.{duration};
 ghost use Rattle.cpg_base.specs.Graph.{process_count};
 ghost use Rattle.cpg_base.specs.Numbers.{numbers_below};
 ghost use Rattle.cpg_tree.specs.GraphTrees.{IsTree};
 ghost use Rattle.cpg_expand.specs.Ending.{IsEndTree, IsReadyAfter, IsReadyTree, goes_on};
 ghost use Rattle.cpg_expand.specs.Forest.{HasTrees, IsWait, ready_by};
+ghost use Rattle.cpg_expand.specs.Large.{IsLargeEnd, ShowsLarge};
 
+use crate::bounding::few;
 use crate::forest::{Forest, Ready};
 use cpg_base::{OutOfMemory, Problem};
-use cpg_tree::{Tree, fault};
+use cpg_run::BuildFault;
+use cpg_tree::{OptionalTime, Tree, fault};
 use cpg_tree_times::{ends, pick_later};
 use std::alloc::Global;
 
@@ -29,12 +32,12 @@ fn durations(alloc: Global, problem: &Problem, process: u32) -> Result<Vec<u64>,
 
 /// Returns the ends of a process, given its starts: in each scenario the start and the duration with its fault count
 /// there, and none where it doesn't start.
-pub(crate) fn end(
+pub fn end(
     alloc: Global,
     problem: &Problem,
-    start: &Tree<Option<u64>>,
+    start: &Tree<OptionalTime>,
     process: u32,
-) -> Result<Tree<Option<u64>>, OutOfMemory>
+) -> Result<Tree<OptionalTime>, OutOfMemory>
     requires process { process < process_count problem.now }
     requires start { IsTree problem.now start.now }
     ensures tree { IfOk result (IsTree problem.now) }
@@ -53,7 +56,7 @@ pub(crate) fn end(
 fn end_or(
     problem: &Problem,
     active: &Tree<bool>,
-    end: &Tree<Option<u64>>,
+    end: &Tree<OptionalTime>,
     wait: &Tree<u64>,
 ) -> Result<Tree<u64>, OutOfMemory>
     requires active { IsTree problem.now active.now }
@@ -72,7 +75,7 @@ fn ready_at(
     problem: &Problem,
     forest: &Forest,
     active: &Tree<bool>,
-    end: &Tree<Option<u64>>,
+    end: &Tree<OptionalTime>,
     wait: &Ready,
 ) -> Result<Tree<u64>, OutOfMemory>
     requires forest { HasTrees problem.now forest.now }
@@ -100,11 +103,11 @@ fn ready_at(
 /// Returns from when on the node of a process goes on after it: its end where `active` is true, and elsewhere when its
 /// wait would be over. `end` has the ends of the process, and `wait` says what it waits for on its node. If it is
 /// always active, the answer is `After` it, and no tree is made.
-pub(crate) fn ready(
+pub fn ready(
     problem: &Problem,
     forest: &Forest,
     active: &Tree<bool>,
-    end: &Tree<Option<u64>>,
+    end: &Tree<OptionalTime>,
     wait: &Ready,
     process: u32,
 ) -> Result<Ready, OutOfMemory>
@@ -122,4 +125,44 @@ pub(crate) fn ready(
     }
     let tree = ready_at(problem, forest, active, end, wait)?;
     Ok(Ready::At(tree))
+}
+
+/// What follows from the starts of a process: its ends, and from when on its node goes on after it.
+#[derive(Drop)]
+pub struct EndAndReady {
+    /// When the process ends in each scenario; no time where it is inactive.
+    pub end: Tree<OptionalTime>,
+    /// From when on its node goes on after it.
+    pub ready: Ready,
+}
+
+/// Returns the ends of a process, and from when on its node goes on after it. `active` says where it is active, `start`
+/// has its starts, and `wait` says what it waits for on its node. `TooWide` names the forest's item if the tree of the
+/// starts or that of the ends has too many leaves.
+pub fn end_and_ready(
+    alloc: Global,
+    problem: &Problem,
+    forest: &Forest,
+    active: &Tree<bool>,
+    start: &Tree<OptionalTime>,
+    wait: &Ready,
+    process: u32,
+) -> Result<EndAndReady, BuildFault>
+    requires process { process < process_count problem.now }
+    requires forest { HasTrees problem.now forest.now }
+    requires active { IsTree problem.now active.now }
+    requires start { IsTree problem.now start.now }
+    requires wait { IsWait problem.now wait.now }
+    ensures tree { IfOk result (λ e. IsTree problem.now e.end) }
+    ensures end { IfOk result (λ e. IsEndTree problem.now process start.now e.end) }
+    ensures of { IfOk result (λ e. IsReadyAfter problem.now process e.ready) }
+    ensures ready { IfOk result (λ e. IsReadyTree problem.now.faults active.now e.end (ready_by problem.now forest.now wait.now) (goes_on e.end e.ready)) }
+    ensures fault { IfErr result (ShowsLarge forest.now.wide (IsLargeEnd problem.now process start.now)) }
+{
+    // a tree with too many leaves is refused before the next one is made of it
+    few(start, forest.wide)?;
+    let end = end(alloc, problem, start, process)?;
+    few(&end, forest.wide)?;
+    let ready = ready(problem, forest, active, &end, wait, process)?;
+    Ok(EndAndReady { end, ready })
 }

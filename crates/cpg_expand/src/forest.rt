@@ -1,5 +1,5 @@
 //! The trees that are found process by process along an order, and times that are read from them.
-ghost use Rattle.std.specs.Prelude.{[], ◌≡◌, ◌<◌, ◌≤◌, None, All, IfOk, length, true};
+ghost use Rattle.std.specs.Prelude.{[], ◌≡◌, ◌<◌, ◌≤◌, None, All, IfOk, length, slice_set, true};
 ghost use Rattle.cpg_base.specs.Graph.{condition_count, edge_count, is_message, item_count, process_count, home};
 ghost use Rattle.cpg_tree.specs.GraphTrees.{IsTree};
 ghost use Rattle.cpg_expand.specs.Forest.{HasTrees, IsWait, ends_of, heard_delay, heard_tree, input_delay, input_tree, later_tree, ready_by, times_of};
@@ -11,7 +11,7 @@ ghost use Rattle.cpg_tree.specs.Read.{later_by};
 ghost use Rattle.cpg_tree.specs.Tree.{IsConstant};
 
 use cpg_base::{OutOfMemory, Problem};
-use cpg_tree::Tree;
+use cpg_tree::{OptionalTime, Tree};
 use cpg_tree_times::{
     later, later_of, later_or, max_later, max_of, started, started_of, started_of_where,
     started_or, started_or_where,
@@ -21,7 +21,7 @@ use std::marker::Model;
 
 /// From when on a node is ready for its next process.
 #[derive(Drop)]
-pub(crate) enum Ready {
+pub enum Ready {
     /// From the ends of this process on; their tree, in the forest, isn't copied.
     After(u32),
     /// From the times of this tree on.
@@ -32,9 +32,9 @@ pub(crate) enum Ready {
 #[derive(Drop)]
 pub struct Forest {
     /// For each item, when it starts or is sent; no time where it doesn't.
-    pub(crate) times: Vec<Tree<Option<u64>>>,
+    pub(crate) times: Vec<Tree<OptionalTime>>,
     /// For each process, when it ends; no time where it isn't active.
-    pub(crate) ends: Vec<Tree<Option<u64>>>,
+    pub(crate) ends: Vec<Tree<OptionalTime>>,
     /// For each node, from when on it is ready for its next process.
     pub(crate) ready: Vec<Ready>,
     /// For each node, from when on its slots are free.
@@ -51,12 +51,21 @@ impl Model for Forest {
     ghost view = { λ f. record { times = f.times.items; ends = f.ends.items; ready = f.ready.items; free = f.free.items; wide = f.wide } };
 }
 
+/// Returns a tree that has no time in any scenario.
+pub(crate) fn never(alloc: Global, problem: &Problem) -> Result<Tree<OptionalTime>, OutOfMemory>
+    ensures tree { IfOk result (IsTree problem.now) }
+    ensures none { IfOk result (IsConstant None problem.now.faults) }
+{
+    let never = Tree::constant(alloc, OptionalTime::of(None), problem.faults())?;
+    Ok(never)
+}
+
 /// Returns `count` trees that have no time in any scenario.
 fn without_times(
     alloc: Global,
     problem: &Problem,
     count: usize,
-) -> Result<Vec<Tree<Option<u64>>>, OutOfMemory>
+) -> Result<Vec<Tree<OptionalTime>>, OutOfMemory>
     ensures count { IfOk result (λ trees. length trees.items ≡ count) }
     ensures all { IfOk result (λ trees. All (IsTree problem.now) trees.items) }
     ensures none { IfOk result (λ trees. All (IsConstant None problem.now.faults) trees.items) }
@@ -64,7 +73,7 @@ fn without_times(
     let mut trees = Vec::new(alloc);
     trees.reserve(count)?;
     for _ in 0..count {
-        trees.push(Tree::constant(alloc, None, problem.faults())?)?;
+        trees.push(never(alloc, problem)?)?;
     }
     Ok(trees)
 }
@@ -98,14 +107,36 @@ fn ready_first(alloc: Global, problem: &Problem, count: usize) -> Result<Vec<Rea
     Ok(nodes)
 }
 
+/// Puts the trees of a process into the forest: `times` has its starts, `ends` its ends, and `ready` says from when on
+/// its node is ready after it.
+pub fn put_begun(
+    forest: &mut Forest,
+    process: u32,
+    times: Tree<OptionalTime>,
+    ends: Tree<OptionalTime>,
+    node: u32,
+    ready: Ready,
+)
+    requires times { process < length forest.old.times }
+    requires ends { process < length forest.old.ends }
+    requires node { node < length forest.old.ready }
+    ensures { forest.new ≡ record {
+      times = slice_set forest.old.times process times;
+      ends = slice_set forest.old.ends process ends;
+      ready = slice_set forest.old.ready node ready;
+      free = forest.old.free;
+      wide = forest.old.wide;
+    } }
+{
+    forest.times[process as usize] = times;
+    forest.ends[process as usize] = ends;
+    forest.ready[node as usize] = ready;
+}
+
 impl Forest {
     /// Returns a forest in which no item has a time and no process an end; nodes are ready and slots free from time 0
     /// on. `wide` is the item that `TooWide` names if a tree has too many leaves; with `None` leaves aren't counted.
-    pub(crate) fn none(
-        alloc: Global,
-        problem: &Problem,
-        wide: Option<u32>,
-    ) -> Result<Forest, OutOfMemory>
+    pub fn none(alloc: Global, problem: &Problem, wide: Option<u32>) -> Result<Forest, OutOfMemory>
         ensures trees { IfOk result (HasTrees problem.now) }
         ensures bare { IfOk result (IsBareForest problem.now) }
         ensures wide { IfOk result (λ forest. forest.wide ≡ wide) }
@@ -121,14 +152,14 @@ impl Forest {
     }
 
     /// Returns the ends of the processes, by process.
-    pub fn ends(&self) -> &[Tree<Option<u64>>]
+    pub fn ends(&self) -> &[Tree<OptionalTime>]
         ensures { result.now ≡ self.now.ends }
     {
         self.ends.as_slice()
     }
 
     /// Returns the times of the items. The other trees are dropped.
-    pub fn into_times(self) -> Vec<Tree<Option<u64>>>
+    pub fn into_times(self) -> Vec<Tree<OptionalTime>>
         ensures { result.items ≡ self.times }
     {
         self.times
@@ -266,7 +297,7 @@ impl Forest {
         ready: &Ready,
         item: u32,
         release: u64,
-    ) -> Result<Tree<Option<u64>>, OutOfMemory>
+    ) -> Result<Tree<OptionalTime>, OutOfMemory>
         requires forest { HasTrees problem.now self.now }
         requires ready { IsWait problem.now ready.now }
         requires item { item < item_count problem.now }
@@ -298,7 +329,7 @@ impl Forest {
         ready: &Ready,
         edge: u32,
         release: u64,
-    ) -> Result<Tree<Option<u64>>, OutOfMemory>
+    ) -> Result<Tree<OptionalTime>, OutOfMemory>
         requires forest { HasTrees problem.now self.now }
         requires ready { IsWait problem.now ready.now }
         requires edge { edge < edge_count problem.now }
@@ -322,7 +353,7 @@ impl Forest {
         item: u32,
         release: u64,
         active: &Tree<bool>,
-    ) -> Result<Tree<Option<u64>>, OutOfMemory>
+    ) -> Result<Tree<OptionalTime>, OutOfMemory>
         requires forest { HasTrees problem.now self.now }
         requires ready { IsWait problem.now ready.now }
         requires item { item < item_count problem.now }
@@ -358,7 +389,7 @@ impl Forest {
         edge: u32,
         release: u64,
         active: &Tree<bool>,
-    ) -> Result<Tree<Option<u64>>, OutOfMemory>
+    ) -> Result<Tree<OptionalTime>, OutOfMemory>
         requires forest { HasTrees problem.now self.now }
         requires ready { IsWait problem.now ready.now }
         requires edge { edge < edge_count problem.now }
@@ -379,7 +410,7 @@ impl Forest {
         problem: &Problem,
         ready: &Ready,
         release: u64,
-    ) -> Result<Tree<Option<u64>>, OutOfMemory>
+    ) -> Result<Tree<OptionalTime>, OutOfMemory>
         requires forest { HasTrees problem.now self.now }
         requires ready { IsWait problem.now ready.now }
         ensures tree { IfOk result (IsTree problem.now) }
@@ -409,7 +440,7 @@ impl Forest {
         ready: &Ready,
         release: u64,
         active: &Tree<bool>,
-    ) -> Result<Tree<Option<u64>>, OutOfMemory>
+    ) -> Result<Tree<OptionalTime>, OutOfMemory>
         requires forest { HasTrees problem.now self.now }
         requires ready { IsWait problem.now ready.now }
         requires active { IsTree problem.now active.now }
@@ -418,7 +449,7 @@ impl Forest {
     {
         // the starts as if the process were always active, then cut to where it is
         let start = self.started(problem, ready, release)?;
-        let never = Tree::constant(active.alloc(), None, problem.faults())?;
+        let never = never(active.alloc(), problem)?;
         let there = Tree::pick(active, &start, &never)?;
         Ok(there)
     }

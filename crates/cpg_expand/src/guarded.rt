@@ -13,11 +13,11 @@ ghost use Rattle.cpg_rules.specs.Trees.{TestsBelow};
 
 use crate::bounding::few;
 use crate::descent::{Descent, tree_down};
-use crate::forest::{Forest, Ready};
+use crate::forest::{Forest, Ready, never};
 use cpg_base::{Activation, OutOfMemory, Problem};
 use cpg_rules::{GuardTop, GuardTree};
 use cpg_run::BuildFault;
-use cpg_tree::{Tree, value};
+use cpg_tree::{OptionalTime, Tree, value};
 use std::alloc::Global;
 
 /// Returns the tree that has the values of `yes` where the condition is true and those of `no` where it is false.
@@ -92,7 +92,7 @@ impl Descent<bool> for Activity<'_> {
 
 /// Returns a tree that is true where a guard leads to an active leaf, so where its process is active, and false
 /// elsewhere.
-pub(crate) fn active(
+pub fn active(
     alloc: Global,
     problem: &Problem,
     guard: &GuardTree,
@@ -252,7 +252,7 @@ fn start_after(
     wait: &Ready,
     release: u64,
     edges: &[u32],
-) -> Result<Tree<Option<u64>>, BuildFault>
+) -> Result<Tree<OptionalTime>, BuildFault>
     requires forest { HasTrees problem.now forest.now }
     requires wait { IsWait problem.now wait.now }
     requires edges { All (λ e. e < edge_count problem.now) edges.now }
@@ -291,7 +291,7 @@ fn start_where(
     release: u64,
     edges: &[u32],
     active: &Tree<bool>,
-) -> Result<Tree<Option<u64>>, BuildFault>
+) -> Result<Tree<OptionalTime>, BuildFault>
     requires forest { HasTrees problem.now forest.now }
     requires wait { IsWait problem.now wait.now }
     requires edges { All (λ e. e < edge_count problem.now) edges.now }
@@ -382,7 +382,7 @@ fn start_by(
     release: u64,
     inputs: &[u32],
     activation: Activation,
-) -> Result<Tree<Option<u64>>, BuildFault>
+) -> Result<Tree<OptionalTime>, BuildFault>
     requires forest { HasTrees problem.now forest.now }
     requires wait { IsWait problem.now wait.now }
     requires inputs { All (λ e. e < edge_count problem.now) inputs.now }
@@ -394,8 +394,8 @@ fn start_by(
     match activation {
         Activation::Inactive => {
             // an inactive process never starts
-            let constant = Tree::constant(alloc, None, problem.faults())?;
-            Ok(constant)
+            let never = never(alloc, problem)?;
+            Ok(never)
         }
         Activation::Plain => {
             // all inputs are waited for
@@ -427,7 +427,7 @@ struct Starting<'a> {
     inputs: &'a [u32],
 }
 
-impl Descent<Option<u64>> for Starting<'_> {
+impl Descent<OptionalTime> for Starting<'_> {
     ghost begun = { λ s. (condition_count s.problem.now ≤ 32) × HasTrees s.problem.now s.forest.now × IsWait s.problem.now s.wait.now ×
         All (λ e. e < edge_count s.problem.now) s.inputs.now };
 
@@ -452,7 +452,7 @@ impl Descent<Option<u64>> for Starting<'_> {
     }
 
     // the activation says which inputs are waited for
-    fn leaf(&self, activation: Activation) -> Result<Tree<Option<u64>>, BuildFault> {
+    fn leaf(&self, activation: Activation) -> Result<Tree<OptionalTime>, BuildFault> {
         start_by(
             self.alloc,
             self.problem,
@@ -468,9 +468,9 @@ impl Descent<Option<u64>> for Starting<'_> {
     fn test(
         &self,
         condition: u32,
-        no: &Tree<Option<u64>>,
-        yes: &Tree<Option<u64>>,
-    ) -> Result<Tree<Option<u64>>, OutOfMemory> {
+        no: &Tree<OptionalTime>,
+        yes: &Tree<OptionalTime>,
+    ) -> Result<Tree<OptionalTime>, OutOfMemory> {
         by_value(self.alloc, self.problem, condition, yes, no)
     }
 }
@@ -486,7 +486,7 @@ pub(crate) fn start(
     inputs: &[u32],
     guard: &GuardTree,
     active: &Tree<bool>,
-) -> Result<Tree<Option<u64>>, BuildFault>
+) -> Result<Tree<OptionalTime>, BuildFault>
     requires forest { HasTrees problem.now forest.now }
     requires wait { IsWait problem.now wait.now }
     requires few { condition_count problem.now ≤ 32 }

@@ -16,12 +16,12 @@ use crate::forest::Forest;
 use crate::waited::stands_before;
 use cpg_base::{Order, OutOfMemory, Problem};
 use cpg_bus::Share;
-use cpg_tree::{Tree, time_later};
+use cpg_tree::{OptionalTime, Tree, time_later};
 use cpg_tree_times::slot_at;
 use std::alloc::Global;
 
 /// Returns the greatest time that `tree` has in a scenario in which `wanted` is true; `None` exactly if there is none.
-fn most_where(problem: &Problem, tree: &Tree<Option<u64>>, wanted: &Tree<bool>) -> Option<u64>
+fn most_where(problem: &Problem, tree: &Tree<OptionalTime>, wanted: &Tree<bool>) -> Option<u64>
     requires tree { IsTree problem.now tree.now }
     requires wanted { IsTree problem.now wanted.now }
     ensures { IsTop problem.now (HasWhere tree.now wanted.now) result }
@@ -264,7 +264,7 @@ fn after_inputs(
 /// Returns the latest start of a process in any scenario. It waits for its release, for the inputs `edges`, and for the
 /// processes in the span before it to end; and its node must have heard what the guards of these and its own test.
 /// `active` says where the process is active. `None` exactly if it is never active.
-pub(crate) fn latest_start(
+pub fn latest_start(
     alloc: Global,
     span: &NodeSpan<'_>,
     forest: &Forest,
@@ -282,7 +282,11 @@ pub(crate) fn latest_start(
 {
     let problem = span.problem;
     let at = span.order.place(process);
-    let ready = Tree::constant(alloc, Some(problem.release(process)), problem.faults())?;
+    let ready = Tree::constant(
+        alloc,
+        OptionalTime::of(Some(problem.release(process))),
+        problem.faults(),
+    )?;
     // the release has a time everywhere, so without one here the process is never active
     let Some(released) = most_where(problem, &ready, active) else {
         return Ok(None);
@@ -362,7 +366,7 @@ pub(crate) fn latest_send(
     forest: &Forest,
     share: Share,
     sent: &Sent<'_>,
-    end: &Tree<Option<u64>>,
+    end: &Tree<OptionalTime>,
 ) -> Option<u64>
     requires order { length order.now ≡ process_count problem.now }
     requires forest { HasTrees problem.now forest.now }

@@ -14,14 +14,14 @@ ghost use Rattle.cpg_expand.specs.Latest.{IsLatestSend};
 ghost use Rattle.cpg_expand.specs.Sent.{AreItemsAdded, IsItemAdded, IsSentFor};
 ghost use Rattle.cpg_expand.specs.Sending.{IsFreeTree, IsGoesTree, IsLiveTree, IsSentTree, IsTestedTree, asked};
 
-use crate::forest::Forest;
+use crate::forest::{Forest, never};
 use crate::latest::{Sent, latest_send};
 use crate::starting::freeze;
 use crate::waited::is_queued_for;
 use cpg_base::{Item, Order, OutOfMemory, Problem};
 use cpg_bus::{Plan, Share};
 use cpg_run::FrozenTimes;
-use cpg_tree::{Tree, value};
+use cpg_tree::{OptionalTime, Tree, value};
 use cpg_tree_times::{later, pick_later, same_as, slots};
 use std::alloc::Global;
 
@@ -130,9 +130,9 @@ fn unfrozen_sent(
     problem: &Problem,
     share: Share,
     goes: &Tree<bool>,
-    end: &Tree<Option<u64>>,
+    end: &Tree<OptionalTime>,
     free: &Tree<u64>,
-) -> Result<Tree<Option<u64>>, OutOfMemory>
+) -> Result<Tree<OptionalTime>, OutOfMemory>
     requires goes { IsTree problem.now goes.now }
     requires end { IsTree problem.now end.now }
     requires free { IsTree problem.now free.now }
@@ -144,7 +144,7 @@ fn unfrozen_sent(
     if goes.is_true() {
         return Ok(slots);
     }
-    let never = Tree::constant(alloc, None, problem.faults())?;
+    let never = never(alloc, problem)?;
     let sent = Tree::pick(goes, &slots, &never)?;
     Ok(sent)
 }
@@ -157,7 +157,7 @@ fn freed(
     order: &Order,
     round: u64,
     goes: &Tree<bool>,
-    sent: &Tree<Option<u64>>,
+    sent: &Tree<OptionalTime>,
     free: &Tree<u64>,
     item: u32,
 ) -> Result<Tree<u64>, OutOfMemory>
@@ -195,7 +195,7 @@ fn unfrozen_times_of(
     forest: &Forest,
     goes: &Tree<bool>,
     item: u32,
-) -> Result<Tree<Option<u64>>, OutOfMemory>
+) -> Result<Tree<OptionalTime>, OutOfMemory>
     requires plan { plan.now ≡ plan_of problem.now }
     requires slots { HasSenderSlots problem.now }
     requires item { item < item_count problem.now }
@@ -222,7 +222,7 @@ fn free_then(
     order: &Order,
     forest: &Forest,
     goes: &Tree<bool>,
-    sent: &Tree<Option<u64>>,
+    sent: &Tree<OptionalTime>,
     item: u32,
 ) -> Result<Tree<u64>, OutOfMemory>
     requires plan { plan.now ≡ plan_of problem.now }
@@ -242,7 +242,7 @@ fn free_then(
 }
 
 /// Puts into the forest the times of an item, and `free`, from when on the slots of its node are free.
-fn put(forest: &mut Forest, item: u32, times: Tree<Option<u64>>, node: u32, free: Tree<u64>)
+fn put(forest: &mut Forest, item: u32, times: Tree<OptionalTime>, node: u32, free: Tree<u64>)
     requires item { item < length forest.old.times }
     requires node { node < length forest.old.free }
     ensures { forest.new ≡ record {
@@ -259,13 +259,13 @@ fn put(forest: &mut Forest, item: u32, times: Tree<Option<u64>>, node: u32, free
 
 /// A graph, its plan of inputs, queues and slots, and an order of its processes.
 #[derive(Clone, Copy)]
-pub(crate) struct PlannedCourse<'a> {
+pub struct PlannedCourse<'a> {
     /// The graph.
-    pub(crate) problem: &'a Problem,
+    pub problem: &'a Problem,
     /// The plan of the graph.
-    pub(crate) plan: &'a Plan,
+    pub plan: &'a Plan,
     /// The order of the processes.
-    pub(crate) order: &'a Order,
+    pub order: &'a Order,
 }
 
 /// Returns the latest time at which a frozen item would be sent if it weren't frozen. `goes` says where it goes; `None`
@@ -307,7 +307,7 @@ fn sent_of(
     forest: &Forest,
     goes: &Tree<bool>,
     item: u32,
-) -> Result<Tree<Option<u64>>, OutOfMemory>
+) -> Result<Tree<OptionalTime>, OutOfMemory>
     requires plan { course.now.plan.now ≡ plan_of course.now.problem.now }
     requires order { length course.now.order.now ≡ process_count course.now.problem.now }
     requires slots { HasSenderSlots course.now.problem.now }
@@ -372,7 +372,7 @@ fn add(
 
 /// Adds the items that a process sends, in the order of its queue: to the forest their times, and from when on the
 /// slots of its node are free after them, and to `frozen` the frozen times. `active` says where the process is active.
-pub(crate) fn send(
+pub fn send(
     alloc: Global,
     course: &PlannedCourse<'_>,
     frozen: &mut FrozenTimes,

@@ -15,7 +15,7 @@ use crate::guarded::{heard, start};
 use cpg_base::{OutOfMemory, Problem};
 use cpg_rules::{GuardTop, GuardTree};
 use cpg_run::{BuildFault, FrozenTimes};
-use cpg_tree::Tree;
+use cpg_tree::{OptionalTime, Tree};
 use cpg_tree_times::fixed;
 use std::alloc::Global;
 
@@ -35,7 +35,7 @@ fn few_ready(problem: &Problem, forest: &Forest, node: u32) -> Result<(), BuildF
 /// Returns from when on a node is ready for a process and has heard what its guard tests. `None` exactly if the guard
 /// tests nothing: then the process waits until its node is ready. `TooWide` names the forest's item if a tree on the
 /// way has too many leaves.
-pub(crate) fn waiting(
+pub fn waiting(
     alloc: Global,
     problem: &Problem,
     forest: &Forest,
@@ -69,7 +69,7 @@ pub(crate) fn waiting(
 
 /// Returns what a process waits for on its node: `heard`, which says when its node is ready and has heard what is
 /// tested; without that, what says when the node is ready. The contract alone names `problem`.
-pub(crate) fn wait_for<'a>(
+pub fn wait_for<'a>(
     problem: &Problem,
     forest: &'a Forest,
     node: u32,
@@ -88,7 +88,7 @@ pub(crate) fn wait_for<'a>(
 /// Returns the starts of a process that isn't frozen; no time where it is inactive. `wait` says what it waits for on
 /// its node, `inputs` are the edges that lead to it, `guard` is its guard, and `active` says where it is active.
 /// `TooWide` names the forest's item if a tree on the way has too many leaves.
-pub(crate) fn unfrozen_start(
+pub fn unfrozen_start(
     problem: &Problem,
     forest: &Forest,
     wait: &Ready,
@@ -96,7 +96,7 @@ pub(crate) fn unfrozen_start(
     guard: &GuardTree,
     process: u32,
     active: &Tree<bool>,
-) -> Result<Tree<Option<u64>>, BuildFault>
+) -> Result<Tree<OptionalTime>, BuildFault>
     requires process { process < process_count problem.now }
     requires forest { HasTrees problem.now forest.now }
     requires wait { IsWait problem.now wait.now }
@@ -136,13 +136,13 @@ fn set_if(frozen: &mut FrozenTimes, item: u32, latest: Option<u64>)
 /// Sets `latest` as the frozen time of an item, and returns the tree that has this time where `goes` is true, and no
 /// time elsewhere. With `None`, which is right only if the item never goes, no time is set. The contract alone names
 /// `problem`.
-pub(crate) fn freeze(
+pub fn freeze(
     problem: &Problem,
     frozen: &mut FrozenTimes,
     item: u32,
     goes: &Tree<bool>,
     latest: Option<u64>,
-) -> Result<Tree<Option<u64>>, OutOfMemory>
+) -> Result<Tree<OptionalTime>, OutOfMemory>
     requires item { item < item_count problem.now }
     requires places { length frozen.old ≡ item_count problem.now }
     requires goes { IsTree problem.now goes.now }

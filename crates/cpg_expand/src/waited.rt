@@ -19,7 +19,7 @@ fn waits_behind(problem: &Problem, order: &Order, node: u32, at: u32, other: u32
 
 /// Whether some process behind a given one is on the same node and isn't frozen. A frozen process looks at what it
 /// waits for separately, so it needs no tree of when its node is ready.
-pub(crate) fn is_waited_for(problem: &Problem, order: &Order, process: u32) -> bool
+pub fn is_waited_for(problem: &Problem, order: &Order, process: u32) -> bool
     requires process { process < process_count problem.now }
     requires order { length order.now ≡ process_count problem.now }
     ensures waited { IsWaitedFor problem.now order.now (place order.now process + 1) (node_of problem.now process) → result ≡ true }

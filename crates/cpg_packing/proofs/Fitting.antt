@@ -44,31 +44,32 @@ module _ (g : Graph) (within : IsWithinLimits g) where
 
   -- writable rows fit the fields of a pack
   pub packable_rows : (rows : List Row) → AreWritable g rows → All IsPackableRow rows
-  packable_rows rows w i d l = record {
-    few = w.few i d l;
+  packable_rows rows writable i d inside = record {
+    few = writable.few i d inside;
     columns =
         All-weaker (IsWritable g) IsPackable (λ c is. record { time = is.time; short = short_cube c.cube is.cube })
-        (get_or rows i d).columns (w.lawful i d l);
+        (get_or rows i d).columns (writable.lawful i d inside);
   }
 
   -- what a node starts, sends and hears under the head are items of the graph
   items_within : (node : ℕ) → node < length g.nodes → AreItemsWithin g (lists_of (head_of g) node)
-  items_within node l = record {
+  items_within node below = record {
     starts = from_each (lists_of (head_of g) node).starts (start_below g within node);
     sends = from_each (lists_of (head_of g) node).sends (send_below g within node);
-    hears = from_each (lists_of (head_of g) node).hears (hear_below g within node l);
+    hears = from_each (lists_of (head_of g) node).hears (hear_below g within node below);
   }
     where
       -- if each element of `xs` is an item of the graph, so is the element at each place
       from_each : (xs : List ℕ) → ((x : ℕ) → Contains xs x → x < item_count g) → All (λ x. x < item_count g) xs
-      from_each xs h i d l = h (get_or xs i d) (Contains-get_or xs i d l)
+      from_each xs are_items i d inside = are_items (get_or xs i d) (Contains-get_or xs i d inside)
 
   -- the items of every node are items of the graph
   pub nodes_within : All (AreItemsWithin g) (items_of_nodes g)
-  nodes_within i d l =
-      let q = Contains-map_parts (lists_of (head_of g)) (numbers_below (length g.nodes)) (get_or (items_of_nodes g) i d)
-      (Contains-get_or (items_of_nodes g) i d l) in
-      subst (AreItemsWithin g) q.2 (items_within q.0 (numbers-Contains (length g.nodes) q.0 q.1))
+  nodes_within i d inside =
+      let node = Contains-map_parts (lists_of (head_of g)) (numbers_below (length g.nodes))
+      (get_or (items_of_nodes g) i d)
+      (Contains-get_or (items_of_nodes g) i d inside) in
+      subst (AreItemsWithin g) node.2 (items_within node.0 (numbers-Contains (length g.nodes) node.0 node.1))
 
 -- ---- the bytes of a row whose columns are later
 
@@ -81,7 +82,7 @@ row_later item delay columns = ap₂ (λ (n : ℕ) (bytes : List ℕ). to_be_byt
 
 -- a column with the cube of `c` and an equal time `t` is the same column
 same_column : (c : Column) (t : ℕ) → t ≡ c.time → (let d : Column = record { time = t; cube = c.cube } in d) ≡ c
-same_column c t e = ap (λ (x : ℕ). let d : Column = record { time = x; cube = c.cube } in d) e
+same_column c t same_time = ap (λ (x : ℕ). let d : Column = record { time = x; cube = c.cube } in d) same_time
 
 -- columns that are later by nothing are the same columns
 later_none : (columns : List Column) → map (later_by 0) columns ≡ columns
@@ -94,9 +95,9 @@ later_none (c ∷ cs) =
 pub own_row : (rows : List Row) (x : ℕ) (row : Row) → row ≡ get_or rows x row → x < length rows →
     (let later : Row = record { item = row.item; columns = map (later_by 0) row.columns } in
     row_bytes later) ≡ row_bytes (row_for rows x)
-own_row rows x row is l =
+own_row rows x row is inside =
     let bytes = λ (cs : List Column). to_be_bytes w16 (length cs) ++ flat_map column_bytes cs in
-    ap bytes (later_none row.columns) ∙ ap row_bytes (is ∙ get_or_default rows x row no_row l)
+    ap bytes (later_none row.columns) ∙ ap row_bytes (is ∙ get_or_default rows x row no_row inside)
 
 -- the bytes of the row at place x, later by a delay, are those of the row that is heard of x with that delay
 pub heard_row_bytes : (rows : List Row) (x delay other : ℕ) (row : Row) → row ≡ get_or rows x row → x < length rows →
@@ -104,7 +105,8 @@ pub heard_row_bytes : (rows : List Row) (x delay other : ℕ) (row : Row) → ro
     (let later : Row = record { item = row.item; columns = map (later_by delay) row.columns } in row_bytes later)
     ≡ (let later : Row = record { item = x; columns = map (later_by other) (row_for rows x).columns } in
     row_bytes later)
-heard_row_bytes rows x delay other row is l same =
+heard_row_bytes rows x delay other row is inside same =
     let bytes = λ (cs : List Column). to_be_bytes w16 (length cs) ++ flat_map column_bytes cs in
     ap bytes
-    (ap₂ (λ d cs. map (later_by d) cs) same (ap (λ (r : Row). r.columns) (is ∙ get_or_default rows x row no_row l)))
+    (ap₂ (λ d cs. map (later_by d) cs) same
+    (ap (λ (r : Row). r.columns) (is ∙ get_or_default rows x row no_row inside)))

@@ -9,7 +9,7 @@ use Rattle.cpg_base.specs.Numbers.{numbers_below}
 pub map_more : {X : Type 0} (f : ℕ → X) (n : ℕ) (xs more : List X) (x : X) → xs ≡ map f (numbers_below n) → x ≡ f n →
     more ≡ xs ++ x ∷ [] →
     more ≡ map f (numbers_below (n + 1))
-map_more f n xs more x e new is =
+map_more f n xs more x is_xs new is =
     let next : numbers_below (n + 1) ≡ numbers_below n ++ n ∷ [] =
-    range-append 0 n 1 ∙ ap (λ k. numbers_below n ++ k ∷ []) (let z : 0 + n ≡ n = omega arith in z) in
-    is ∙ ap₂ (λ ys y. ys ++ y ∷ []) e new ∙ sym (ap (map f) next ∙ map-append f (numbers_below n) (n ∷ []))
+    range-append 0 n 1 ∙ ap (λ k. numbers_below n ++ k ∷ []) (let is_n : 0 + n ≡ n = omega arith in is_n) in
+    is ∙ ap₂ (λ ys y. ys ++ y ∷ []) is_xs new ∙ sym (ap (map f) next ∙ map-append f (numbers_below n) (n ∷ []))

@@ -24,15 +24,15 @@ use Rattle.cpg_packing.specs.Packable.{IsPackable}
 pub puts_failed_as : {E : Type 0} (a b h m x y : List ℕ) (r : Result Unit E) (e : E) → r ≡ Err e → x ≡ y →
     TookPrefix a b (h ++ x) →
     Puts a b h m r y
-puts_failed_as a b h m x y r e is same p = subst (Puts a b h m r) same (Puts-failed a b h m x r e is p)
+puts_failed_as a b h m x y r e is same prefix = subst (Puts a b h m r) same (Puts-failed a b h m x r e is prefix)
 
 -- bytes `x` that are put are put as equal bytes `y`
 pub is_put_as : (a b h l x y : List ℕ) → x ≡ y → IsPut a b h l x → IsPut a b h l y
-is_put_as a b h l x y same p = subst (IsPut a b h l) same p
+is_put_as a b h l x y same put = subst (IsPut a b h l) same put
 
 -- a proper prefix of bytes `x`, after the buffer's `h`, that the sink took is one of equal bytes `y`
 pub took_as : (a b h x y : List ℕ) → x ≡ y → TookPrefix a b (h ++ x) → TookPrefix a b (h ++ y)
-took_as a b h x y same p = subst (λ (bytes : List ℕ). TookPrefix a b (h ++ bytes)) same p
+took_as a b h x y same prefix = subst (λ (bytes : List ℕ). TookPrefix a b (h ++ bytes)) same prefix
 
 -- the bytes of a column, later by a delay
 abbrev pub delayed : ℕ → Column → List ℕ
@@ -57,8 +57,8 @@ packable_sides k cube v cut x y all =
     All-parts IsPackable xs ys (subst (All IsPackable) (both_columns (paths_from k (narrowed_by (up_to v cut) cube) x)
     (paths_from k (narrowed_by (above k v cut) cube) y)) all)
 
--- if the columns of the side `x` fit below `cube`, so do those of any tree `n` that has the same items, below `path`, which
--- is equal to `cube`
+-- if the columns of the side `x` fit below `cube`, so do those of any tree `n` that has the same items, below `path`,
+-- which is equal to `cube`
 pub packable_side : (k : ℕ) (items : List (TreeItem (Option ℕ))) (x n : TreeNode (Option ℕ))
     (cube path : List Literal) → items ≡ flat x → path ≡ cube → ArePackable k cube x →
     items ≡ flat n →

@@ -44,23 +44,25 @@ flat_same f h (x ∷ xs) same =
 
 -- rows `a` and `b` with the same item and the same columns are equal
 row_same : (a b : Row) → a.item ≡ b.item → a.columns ≡ b.columns → a ≡ b
-row_same a b e f = ap₂ (λ (x : ℕ) (cs : List Column). let r : Row = record { item = x; columns = cs } in r) e f
+row_same a b same_item same_columns =
+    ap₂ (λ (x : ℕ) (cs : List Column). let r : Row = record { item = x; columns = cs } in r) same_item same_columns
 
 -- two rows of item `x` with equal columns, `a` and `b`, are equal
 heard_same : (x : ℕ) (a b : List Column) → a ≡ b →
     (let row : Row = record { item = x; columns = a } in row) ≡ record { item = x; columns = b }
-heard_same x a b e = cc
+heard_same x a b equal = cc
 
 -- if each of the rows `rs` is the given row of its item, `rs` are the given rows of their items
 mapped : (rows rs : List Row) → ((row : Row) → Contains rs row → row ≡ row_for rows row.item) →
     rs ≡ map (row_for rows) (items_of rs)
 -- by induction on the list
-mapped rows [] h = refl
-mapped rows (r ∷ rs) h = ap₂ (λ (a : Row) (rest : List Row). a ∷ rest) (h r (Contains-first r rs))
-    (mapped rows rs (λ row c. h row (Contains-rest r rs row c)))
+mapped rows [] are_given = refl
+mapped rows (r ∷ rs) are_given = ap₂ (λ (a : Row) (rest : List Row). a ∷ rest) (are_given r (Contains-first r rs))
+    (mapped rows rs (λ row c. are_given row (Contains-rest r rs row c)))
 
 -- given a graph, rows of it that can be written, and the tables with these rows
-module _ (g : Graph) (within : IsWithinLimits g) (formed : WellFormed g) (rows : List Row) (w : AreWritable g rows)
+module _ (g : Graph) (within : IsWithinLimits g) (formed : WellFormed g) (rows : List Row)
+    (writable : AreWritable g rows)
     (t : Tables) (are : AreTablesWith g rows t) where
   -- the tables of the nodes
   abbrev tables : List NodeTable
@@ -82,19 +84,19 @@ module _ (g : Graph) (within : IsWithinLimits g) (formed : WellFormed g) (rows :
 
     -- a start or send row of the node is the given row of its item
     own : (row : Row) → Contains (rows_at tables node) row → row ≡ row_for rows row.item
-    own row c =
-        let has = row_parts formed shape node l row c in
-        row_same row (row_for rows row.item) (sym (item_is g rows w row.item has.within))
-        (sym (row_columns formed shape node l row c) ∙ are.columns row.item)
+    own row listed =
+        let has = row_parts formed shape node l row listed in
+        row_same row (row_for rows row.item) (sym (item_is g rows writable row.item has.within))
+        (sym (row_columns formed shape node l row listed) ∙ are.columns row.item)
 
     -- the start rows of the node are the given rows of what it starts
     starts : table.starts ≡ map (row_for rows) items.starts
-    starts = mapped rows table.starts (λ row c. own row (Contains-append_left table.starts table.sends row c))
+    starts = mapped rows table.starts (λ row listed. own row (Contains-append_left table.starts table.sends row listed))
         ∙ ap (map (row_for rows)) (are.lawful.each node l).starts
 
     -- the send rows of the node are the given rows of what it sends
     sends : table.sends ≡ map (row_for rows) items.sends
-    sends = mapped rows table.sends (λ row c. own row (Contains-append_right table.starts table.sends row c))
+    sends = mapped rows table.sends (λ row listed. own row (Contains-append_right table.starts table.sends row listed))
         ∙ ap (map (row_for rows)) (are.lawful.each node l).sends
 
     -- the node has a table

@@ -14,7 +14,7 @@ use cpg_base::top;
 use cpg_codec::{Buffer, put_column};
 use cpg_cube::Literal;
 use cpg_io::{Failed, Sink};
-use cpg_tree::{Top, TreeItem, top_of};
+use cpg_tree::{OptionalTime, Top, TreeItem, top_of};
 use cpg_tree_columns::PathCube;
 
 /// Puts the columns that the tree has below a path, each later by a delay: the time of each is a leaf, and its cube is the
@@ -23,7 +23,7 @@ use cpg_tree_columns::PathCube;
 pub(crate) fn put_paths<O: Sink>(
     buffer: &mut Buffer,
     sink: &mut O,
-    items: &[TreeItem<Option<u64>>],
+    items: &[TreeItem<OptionalTime>],
     k: u8,
     delay: u64,
     path: &mut PathCube,
@@ -40,7 +40,7 @@ pub(crate) fn put_paths<O: Sink>(
     match top_of(items) {
         Top::Value(time) => {
             // without a time no column is for these scenarios
-            if let Some(time) = time {
+            if let Some(time) = time.get() {
                 put_column(buffer, sink, time + delay, path.literals())?;
             }
             Ok(())

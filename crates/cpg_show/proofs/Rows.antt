@@ -43,10 +43,10 @@ module _ (g : Graph) (made : List Row) (labels : Labels) (n : ℕ) (rows : List 
   pub hidden_more : is_shown g n ≡ false →
       flat_map (lines_of_row g made) (numbers_below n) ≡ flat_map (part_text labels) rows →
       flat_map (lines_of_row g made) (numbers_below (n + 1)) ≡ flat_map (part_text labels) rows
-  hidden_more hidden e =
+  hidden_more hidden so_far =
       let none : lines_of_row g made n ≡ [] = rw hidden refl in
       next ∙ ap (λ t. flat_map (lines_of_row g made) (numbers_below n) ++ t) none
-      ∙ append-nil (flat_map (lines_of_row g made) (numbers_below n)) ∙ e
+      ∙ append-nil (flat_map (lines_of_row g made) (numbers_below n)) ∙ so_far
 
   -- an item n with lines adds its part: with it, the parts are those of the items below n + 1
   pub shown_more : (part : SheetPart) → is_shown g n ≡ true → labels ≡ labels_of g →
@@ -54,11 +54,11 @@ module _ (g : Graph) (made : List Row) (labels : Labels) (n : ℕ) (rows : List 
       ShowsSource part.columns (row_for made n).columns →
       flat_map (lines_of_row g made) (numbers_below n) ≡ flat_map (part_text labels) rows →
       flat_map (lines_of_row g made) (numbers_below (n + 1)) ≡ flat_map (part_text labels) (rows ++ part ∷ [])
-  shown_more part shown names head columns e =
+  shown_more part shown names head columns so_far =
       let one : lines_of_row g made n ≡ part_text labels part =
       rw shown (sym (ap₂ (λ h cs. h ++ cs) head
       (ap₂ columns_text names (source_shows part.columns (row_for made n).columns columns)))) in
-      next ∙ ap₂ (λ before last. before ++ last) e one ∙ sym (pushed labels rows part)
+      next ∙ ap₂ (λ before last. before ++ last) so_far one ∙ sym (pushed labels rows part)
 
 -- the text of tables in which each item has the columns of its row is the text of these rows
 pub tables_have_text : (g : Graph) (order : List ℕ) (rows : List Row) (worst : ℕ) (tables : List NodeTable) →
@@ -67,4 +67,5 @@ pub tables_have_text : (g : Graph) (order : List ℕ) (rows : List Row) (worst :
 tables_have_text g order rows worst tables same =
     ap (λ lines. order_line g order ++ worst_line worst ++ lines)
     (same_flat_map (item_text g tables) (lines_of_row g rows) (numbers_below (item_count g))
-    (λ x c. ap (λ columns. if is_shown g x then head_line g x ++ columns_text (labels_of g) columns else []) (same x)))
+    (λ x listed. ap (λ columns. if is_shown g x then head_line g x ++ columns_text (labels_of g) columns else [])
+    (same x)))

@@ -38,30 +38,32 @@ module _ (g : Graph) (acts : List (List Act)) (ends : List (List (ℕ × Ended))
   -- if the acts and ends of a node are of items and processes of the graph, so are its events
   node_within : (i : ℕ) → All (IsActWithin g) (get_or acts i []) → All (IsEndWithin g) (get_or ends i []) →
       All (λ e. IsKindWithin g e.kind) (node_events g acts ends i)
-  node_within i a h = All-append (λ (e : TraceEvent). IsKindWithin g e.kind) (map (event_of_act g i) (get_or acts i []))
+  node_within i acts_within ends_within =
+      All-append (λ (e : TraceEvent). IsKindWithin g e.kind) (map (event_of_act g i) (get_or acts i []))
       (map (event_of_end i) (get_or ends i []))
       (All-map (λ (e : TraceEvent). IsKindWithin g e.kind) (event_of_act g i) (get_or acts i [])
-      (λ k d l. kind_within (get_or (get_or acts i []) k d).item (a k d l)))
+      (λ k d inside. kind_within (get_or (get_or acts i []) k d).item (acts_within k d inside)))
       (All-map (λ (e : TraceEvent). IsKindWithin g e.kind) (event_of_end i) (get_or ends i [])
-      (λ k d l. ((h k d l).process, (h k d l).faults)))
+      (λ k d inside. ((ends_within k d inside).process, (ends_within k d inside).faults)))
 
   -- if the acts and ends of each node are of items and processes of the graph, so are all events: each is that of some node
   pub all_within : ((i : ℕ) → i < length g.nodes → All (IsActWithin g) (get_or acts i [])) →
       ((i : ℕ) → i < length g.nodes → All (IsEndWithin g) (get_or ends i [])) →
       All (λ e. IsKindWithin g e.kind) (all_events g acts ends)
-  all_within a h k d l =
+  all_within acts_within ends_within k d inside =
       let of_node = Contains-flat_map_parts (node_events g acts ends) (numbers_below (length g.nodes))
-      (get_or (all_events g acts ends) k d) (Contains-get_or (all_events g acts ends) k d l) in
-      let i = numbers-Contains (length g.nodes) of_node.0 of_node.1 in
+      (get_or (all_events g acts ends) k d) (Contains-get_or (all_events g acts ends) k d inside) in
+      let node_inside = numbers-Contains (length g.nodes) of_node.0 of_node.1 in
       All-contains (λ (e : TraceEvent). IsKindWithin g e.kind) (node_events g acts ends of_node.0)
-      (get_or (all_events g acts ends) k d) (node_within of_node.0 (a of_node.0 i) (h of_node.0 i)) of_node.2
+      (get_or (all_events g acts ends) k d)
+      (node_within of_node.0 (acts_within of_node.0 node_inside) (ends_within of_node.0 node_inside)) of_node.2
 
 -- if `before` is the greatest end of the nodes below i, the greatest of it and the ends of node i is that below i + 1
 pub one_finish : (ends : List (List (ℕ × Ended))) (i before after : ℕ) →
     before ≡ greatest (flat_map (end_times ends) (numbers_below i)) →
     after ≡ fold max before (end_times ends i) →
     after ≡ greatest (flat_map (end_times ends) (numbers_below (i + 1)))
-one_finish ends i before after is a = a ∙ ap (λ n. fold max n (end_times ends i)) is
+one_finish ends i before after is after_is = after_is ∙ ap (λ n. fold max n (end_times ends i)) is
     ∙ sym (fold-append max 0 (flat_map (end_times ends) (numbers_below i)) (end_times ends i))
     ∙ sym (ap greatest (next_piece (end_times ends) i [] (flat_map (end_times ends) (numbers_below i))
     (flat_map (end_times ends) (numbers_below i) ++ end_times ends i) refl refl))

@@ -27,33 +27,34 @@ fault_within g s law p = elim (cases_lt p (length s.faults)) [
 -- given a play of valid tables
 module _ (p : Playing) (is : IsPlaying p) where
   -- what is known of any play of these tables
-  k : Played p.graph p.tables p.world
-  k = played_of p.graph p.tables is.formed is.shape is.valid p.world is.world
+  known : Played p.graph p.tables p.world
+  known = played_of p.graph p.tables is.formed is.shape is.valid p.world is.world
 
   -- the acts of a node are on items of the graph
   acts_within : (node : ℕ) → node < length p.graph.nodes → All (IsActWithin p.graph) (get_or p.cluster.acts node [])
-  acts_within node l =
+  acts_within node inside =
       let acts : List Act = get_or p.cluster.acts node [] in
-      let done = ((played_reached k p.cluster is.played).holds node l).done in
-      All-weaker (Contains acts) (IsActWithin p.graph) (λ a h. (done.only a h).0.row.within) acts
+      let done = ((played_reached known p.cluster is.played).holds node inside).done in
+      All-weaker (Contains acts) (IsActWithin p.graph) (λ a listed. (done.only a listed).0.row.within) acts
       (All-contains_itself acts)
 
   -- its ends are those of its processes in the scenario, so their faults are at most the graph's: each end of the
   -- cluster is one that was planned for a process on the node, with the faults of the scenario
   ends_within : (node : ℕ) → node < length p.graph.nodes → All (IsEndWithin p.graph) (get_or p.cluster.ends node [])
-  ends_within node l =
-      let g = p.graph in
+  ends_within node inside =
+      let graph = p.graph in
       let ends : List (ℕ × Ended) = get_or p.cluster.ends node [] in
-      let h = ended_by k p.cluster is.played node l in
-      All-weaker (Contains ends) (IsEndWithin g) (λ q m.
-      let planned = (h.only q m).0 in
-      let here = numbers-Contains (process_count g) planned.process (Contains-filter_parts (λ r. node_of g r == node)
-      (numbers_below (process_count g)) planned.process planned.on).0 in
+      let ends_are = ended_by known p.cluster is.played node inside in
+      All-weaker (Contains ends) (IsEndWithin graph) (λ q listed.
+      let planned = (ends_are.only q listed).0 in
+      let here = numbers-Contains (process_count graph) planned.process
+      (Contains-filter_parts (λ r. node_of graph r == node)
+      (numbers_below (process_count graph)) planned.process planned.on).0 in
       let same : planned.process ≡ q.1.process = ap (λ (e : Ended). e.process) planned.is in
       let faults : fault_of p.world.scenario planned.process ≡ q.1.faults = ap (λ (e : Ended). e.faults) planned.is in
       record {
         process = omega (arith, here, same);
-        faults = omega (arith, faults, fault_within g p.world.scenario is.world.scenario planned.process);
+        faults = omega (arith, faults, fault_within graph p.world.scenario is.world.scenario planned.process);
       }) ends (All-contains_itself ends)
 
 -- The same for `g`, the graph as code sees it, which is that of the play.

@@ -13,7 +13,7 @@ use cpg_node::Ended;
 use cpg_rules::Admitted;
 use std::alloc::{AllocError, Global};
 
-/// Writes the value of a process's condition, `value`; nothing if the process has none.
+/// Writes the value of a process's condition, `value`; nothing if the process has no condition.
 fn write_outcome(
     out: &mut String,
     problem: &Problem,

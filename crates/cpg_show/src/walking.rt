@@ -16,7 +16,7 @@ use cpg_codec::Buffer;
 use cpg_cube::Literal;
 use cpg_io::{Failed, Sink};
 use cpg_label::{Labels, Line};
-use cpg_tree::{Top, TreeItem, top_of};
+use cpg_tree::{OptionalTime, Top, TreeItem, top_of};
 use cpg_tree_columns::PathCube;
 
 /// Puts the lines of the columns that the tree has below a path: the time of each is a leaf, and its cube is the path to
@@ -28,7 +28,7 @@ pub(crate) fn put_paths<O: Sink>(
     sink: &mut O,
     labels: &Labels<'_>,
     line: &mut Line,
-    items: &[TreeItem<Option<u64>>],
+    items: &[TreeItem<OptionalTime>],
     k: u8,
     path: &mut PathCube,
 ) -> Result<(), Failed>
@@ -42,9 +42,11 @@ pub(crate) fn put_paths<O: Sink>(
     ensures cause { HasCause (O.state sink.old).faults (O.state sink.new).faults result }
 {
     match top_of(items) {
-        // no time: no column is for these scenarios
-        Top::Value(None) => Ok(()),
-        Top::Value(Some(time)) => put_next(buffer, sink, labels, line, time, path.literals()),
+        Top::Value(time) => match time.get() {
+            // no time: no column is for these scenarios
+            None => Ok(()),
+            Some(time) => put_next(buffer, sink, labels, line, time, path.literals()),
+        },
         Top::Cut {
             variable,
             cut,

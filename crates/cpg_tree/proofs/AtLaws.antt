@@ -24,12 +24,12 @@ module _ {T : Type 0} (items : List (TreeItem T)) (n : TreeNode T) (are : items 
   module _ (v cut : ℕ) (x y : TreeNode T) (is : items ≡ flat (Fork v cut x y)) (z : T) where
     -- the scenario's value on the side it goes to, below or above, is its value in the whole tree
     pub at_below : number_of s v ≤ cut → z ≡ value_at x s → z ≡ value_at n s
-    at_below h e = e ∙ sym (value_below v cut x y s h)
+    at_below is_below is_value = is_value ∙ sym (value_below v cut x y s is_below)
         ∙ ap (λ (m : TreeNode T). value_at m s) (flat-same (Fork v cut x y) n (sym is ∙ are))
 
     -- a scenario above the cut has the value of the side above
     pub at_above : cut < number_of s v → z ≡ value_at y s → z ≡ value_at n s
-    at_above h e = e ∙ sym (value_above v cut x y s h)
+    at_above is_above is_value = is_value ∙ sym (value_above v cut x y s is_above)
         ∙ ap (λ (m : TreeNode T). value_at m s) (flat-same (Fork v cut x y) n (sym is ∙ are))
 
 -- a list has an item for each leaf, and one for each fork: one fewer
@@ -52,7 +52,7 @@ length-flat {T} (Fork v cut x y) k cube =
 
 -- half of an odd number, rounded up: a list of a tree's items has one leaf more than forks
 half : (a b : ℕ) → a + 1 ≡ 2 * b → a - a / 2 ≡ b
-half a b e = omega arith
+half a b is_double = omega arith
 
 -- half of a list's items, rounded up, are as many as the tree's paths
 pub leaves_are : {T : Type 0} (items : List (TreeItem T)) (n : TreeNode T) (k : ℕ) (cube : List Literal) →

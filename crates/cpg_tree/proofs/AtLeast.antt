@@ -31,19 +31,19 @@ module _ (least : ℕ) where
   pub at_least_paths : (k : ℕ) (node : TreeNode (Option ℕ)) (cube : List Literal) → AreAtLeast least node →
       All IsFrom (paths_from k cube node)
   -- by induction on the tree: a leaf, then a fork by its two sides
-  at_least_paths k (Leaf x) cube h = All-cons IsFrom (cube, x) [] h (All-nil IsFrom)
-  at_least_paths k (Fork v cut below upper) cube h =
+  at_least_paths k (Leaf x) cube at_least = All-cons IsFrom (cube, x) [] at_least (All-nil IsFrom)
+  at_least_paths k (Fork v cut below upper) cube at_least =
       All-append IsFrom (paths_from k (narrowed_by (up_to v cut) cube) below)
       (paths_from k (narrowed_by (above k v cut) cube) upper)
-      (at_least_paths k below (narrowed_by (up_to v cut) cube) h.0)
-      (at_least_paths k upper (narrowed_by (above k v cut) cube) h.1)
+      (at_least_paths k below (narrowed_by (up_to v cut) cube) at_least.0)
+      (at_least_paths k upper (narrowed_by (above k v cut) cube) at_least.1)
 
   -- if each item of a tree's list is a fork or has a time that is at least `least`, each leaf has such a time
   pub at_least_listed : (n : TreeNode (Option ℕ)) → All (IsItemFrom least) (flat n) → AreAtLeast least n
   -- by induction on the tree: a leaf, then a fork by its two sides
-  at_least_listed (Leaf x) h = All-head (IsItemFrom least) (Value x) [] h
-  at_least_listed (Fork v cut x y) h =
-      let sides = all_front (IsItemFrom least) (flat x ++ flat y) (Cut v cut (length (flat x)) ∷ []) h in (
+  at_least_listed (Leaf x) at_least = All-head (IsItemFrom least) (Value x) [] at_least
+  at_least_listed (Fork v cut x y) at_least =
+      let sides = all_front (IsItemFrom least) (flat x ++ flat y) (Cut v cut (length (flat x)) ∷ []) at_least in (
         at_least_listed x (all_front (IsItemFrom least) (flat x) (flat y) sides),
         at_least_listed y (all_back (IsItemFrom least) (flat x) (flat y) sides),
       )

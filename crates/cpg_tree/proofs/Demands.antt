@@ -25,7 +25,7 @@ without_here v f = cond-true (v == v) 0 (f v) (eq-eqb v v refl)
 
 -- leaving out a variable leaves the others
 pub without_other : (v u : ℕ) (f : ℕ → ℕ) → u ≢ v → without v f u ≡ f u
-without_other v u f n = cond-false (u == v) 0 (f u) (ne_eqb u v n)
+without_other v u f other = cond-false (u == v) 0 (f u) (ne_eqb u v other)
 
 -- if each literal's weight is at most a number of its variable, and 0 from a variable on, the weights add up to no
 -- more than the numbers
@@ -36,13 +36,16 @@ pub weights_le : (g : Literal → ℕ) (n : ℕ) (f : ℕ → ℕ) (ls : List Li
 weights_le g n f [] rising each none = omega arith
 weights_le g n f (l ∷ ls) rising each none = elim (cases_lt l.variable n) [
   | inl few ↦
-      let rest = weights_le g n (without l.variable f) ls (rising_rest l ls rising) (λ m c h.
+      let rest = weights_le g n (without l.variable f) ls (rising_rest l ls rising) (λ m listed below.
       subst (λ x. g m ≤ x) (sym (without_other l.variable m.variable f
-      (λ e. omega (arith, e, rising_first l m ls rising c)))) (each m (Contains-rest l ls m c) h)) none in
-      let changed = sum_changed (without l.variable f) f n l.variable few (λ u d. without_other l.variable u f d) in
+      (λ same. omega (arith, same, rising_first l m ls rising listed)))) (each m (Contains-rest l ls m listed) below))
+      none in
+      let changed = sum_changed (without l.variable f) f n l.variable few
+      (λ u other. without_other l.variable u f other) in
       omega (arith, rest, changed, without_here l.variable f, each l (Contains-first l ls) few, sum_by-cons g l ls)
   | inr many ↦
-      let rest = weights_le g n f ls (rising_rest l ls rising) (λ m c h. each m (Contains-rest l ls m c) h) none in
+      let rest = weights_le g n f ls (rising_rest l ls rising)
+      (λ m listed below. each m (Contains-rest l ls m listed) below) none in
       omega (arith, rest, none l many, sum_by-cons g l ls)
 ]
 
@@ -53,8 +56,8 @@ module _ (space : Space) where
       (all : matches ls s ≡ true) where
     -- a matching literal on a count asks for no more beyond the low than the scenario has beyond it
     beyond_le : (l : Literal) → Contains ls l → l.variable < 128 → asked_beyond space l ≤ beyond space s l.variable
-    beyond_le l c few =
-        let low = holds-low s l (from_all (holds s) ls l all c) in
+    beyond_le l listed few =
+        let low = holds-low s l (from_all (holds s) ls l all listed) in
         omega (
           arith,
           low,

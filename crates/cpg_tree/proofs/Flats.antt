@@ -69,14 +69,14 @@ module _ {A : Type 0} where
 
   -- if two lists with one item more each are equal, their last items are
   pub last_same : (xs ys : List A) (x y : A) → xs ++ (x ∷ []) ≡ ys ++ (y ∷ []) → x ≡ y
-  last_same xs ys x y e = sym (last-append x x xs) ∙ ap (last_or x) e ∙ last-append x y ys
+  last_same xs ys x y same = sym (last-append x x xs) ∙ ap (last_or x) same ∙ last-append x y ys
 
   -- the items before the last one are the same too
   pub rest_same : (xs ys : List A) (x y : A) → xs ++ (x ∷ []) ≡ ys ++ (y ∷ []) → xs ≡ ys
-  rest_same xs ys x y e =
+  rest_same xs ys x y same =
       let long : length xs ≡ length ys =
-      omega (arith, ap length e, length-append xs (x ∷ []), length-append ys (y ∷ [])) in
-      sym (take-append_seam xs (x ∷ [])) ∙ ap (take (length xs)) e ∙ ap (λ n. take n (ys ++ (y ∷ []))) long
+      omega (arith, ap length same, length-append xs (x ∷ []), length-append ys (y ∷ [])) in
+      sym (take-append_seam xs (x ∷ [])) ∙ ap (take (length xs)) same ∙ ap (λ n. take n (ys ++ (y ∷ []))) long
       ∙ take-append_seam ys (y ∷ [])
 
 -- the items before the last one, and the last one itself
@@ -108,11 +108,11 @@ module _ {A : Type 0} (front back : List A) (n : ℕ) (long : n ≡ length front
 
 -- a value is no cut, nor a cut a value
 pub value_is_no_cut : {T : Type 0} {x : T} {v cut n : ℕ} → Value x ≡ Cut v cut n → ⊥
-value_is_no_cut e = cc
+value_is_no_cut equal = cc
 
 -- a fork isn't a leaf
 pub cut_is_no_value : {T : Type 0} {x : T} {v cut n : ℕ} → Cut v cut n ≡ Value x → ⊥
-cut_is_no_value e = cc
+cut_is_no_value equal = cc
 
 -- if the last item of a tree's list is a value, no item stands before it
 pub value_alone : {T : Type 0} (n : TreeNode T) (items sides : List (TreeItem T)) (x : T) → items ≡ flat n →
@@ -141,8 +141,8 @@ pub shows_cut : {T : Type 0} (n : TreeNode T) (items sides : List (TreeItem T)) 
     items ≡ sides ++ (Cut v cut m ∷ []) →
     (x : TreeNode T) × (y : TreeNode T) × (take (min m (length sides)) sides ≡ flat x) ×
     (drop (min m (length sides)) sides ≡ flat y) × (items ≡ flat (Fork v cut x y))
--- A leaf's last item is a value, so the tree is a fork. The last item is the fork's own, and the others are those of its
--- sides, of which the first is as long as the item says.
+-- A leaf's last item is a value, so the tree is a fork. The last item is the fork's own, and the others are those of
+-- its sides, of which the first is as long as the item says.
 shows_cut {T} (Leaf z) items sides v cut m is last =
     absurd (cut_is_no_value (last_same sides [] (Cut v cut m) (Value z) (sym last ∙ is)))
 shows_cut {T} (Fork u far below above) items sides v cut m is last =

@@ -21,17 +21,17 @@ module _ {T : Type 0} (v cut : ℕ) (below above : TreeNode T) where
   -- each scenario finds on either side what it finds in the tree, so only the clause on spaces needs a lemma
   forked_same = record {
     made = record {
-      value_below = λ s h. refl;
-      value_above = λ s h. refl;
-      low_below = λ s u h. omega arith;
-      low_above = λ s u h n. omega arith;
-      low_here = λ s h. omega arith;
-      high_below = λ k s u h n. omega arith;
-      high_here = λ k s h. omega arith;
-      high_above = λ k s u h. omega arith;
+      value_below = λ s is_below. refl;
+      value_above = λ s is_above. refl;
+      low_below = λ s u is_below. omega arith;
+      low_above = λ s u is_above other. omega arith;
+      low_here = λ s is_below. omega arith;
+      high_below = λ k s u is_below other. omega arith;
+      high_here = λ k s is_below. omega arith;
+      high_above = λ k s u is_above. omega arith;
     };
     fit = λ space lower upper fit other. fits_uncut below space v cut upper fit;
-    pass = λ test is p q. p;
+    pass = λ test is on_below on_above. on_below;
   }
 
   -- the plain fork of two trees is a fork of them
@@ -39,44 +39,47 @@ module _ {T : Type 0} (v cut : ℕ) (below above : TreeNode T) where
   -- each clause is what a scenario finds at a fork
   forked_plain small = record {
     made = record {
-      value_below = λ s h. forks.value_below v cut below above s h;
-      value_above = λ s h. forks.value_above v cut below above s h;
-      low_below = λ s u h. omega (arith, forks.low_below v cut below above s h u);
-      low_above = λ s u h n. omega (arith, forks.low_above v cut below above s h u n);
-      low_here = λ s h. omega (arith, forks.low_here v cut below above s h);
-      high_below = λ k s u h n. omega (arith, forks.high_below v cut below above s h k u n);
-      high_here = λ k s h. omega (arith, forks.high_here v cut below above s h k);
-      high_above = λ k s u h. omega (arith, forks.high_above v cut below above s h k u);
+      value_below = λ s is_below. forks.value_below v cut below above s is_below;
+      value_above = λ s is_above. forks.value_above v cut below above s is_above;
+      low_below = λ s u is_below. omega (arith, forks.low_below v cut below above s is_below u);
+      low_above = λ s u is_above other. omega (arith, forks.low_above v cut below above s is_above u other);
+      low_here = λ s is_below. omega (arith, forks.low_here v cut below above s is_below);
+      high_below = λ k s u is_below other. omega (arith, forks.high_below v cut below above s is_below k u other);
+      high_here = λ k s is_below. omega (arith, forks.high_here v cut below above s is_below k);
+      high_above = λ k s u is_above. omega (arith, forks.high_above v cut below above s is_above k u);
     };
     fit = λ space lower upper fit other. (small, lower, upper, fit, other);
-    pass = λ test is p q. (is, p, q);
+    pass = λ test is on_below on_above. (is, on_below, on_above);
   }
 
   -- given: a second cut, `far`, which is greater
   module _ (far : ℕ) (less : cut < far) where
     -- a number up to the cut is up to the farther one
     farther : (s : Scenario) → number_of s v ≤ cut → number_of s v ≤ far
-    farther s h = omega (arith, h, less)
+    farther s is_below = omega (arith, is_below, less)
 
     -- if the side above is itself a fork on the variable, farther up, with the same side below, it is a fork of both
     -- sides
     pub forked_met : IsForked v cut below (Fork v far below above) (Fork v far below above)
-    -- A scenario up to the cut is also up to the farther one, and finds the side below there. One above the cut finds the side
-    -- above, which is the tree itself.
+    -- A scenario up to the cut is also up to the farther one, and finds the side below there. One above the cut finds
+    -- the side above, which is the tree itself.
     forked_met = record {
       made = record {
-        value_below = λ s h. forks.value_below v far below above s (farther s h);
-        value_above = λ s h. refl;
-        low_below = λ s u h. omega (arith, forks.low_below v far below above s (farther s h) u);
-        low_above = λ s u h n. omega arith;
-        low_here = λ s h. omega arith;
-        high_below = λ k s u h n. omega (arith, forks.high_below v far below above s (farther s h) k u n);
-        high_here = λ k s h. omega (arith, less, forks.high_here v far below above s (farther s h) k);
-        high_above = λ k s u h. omega arith;
+        value_below = λ s is_below. forks.value_below v far below above s (farther s is_below);
+        value_above = λ s is_above. refl;
+        low_below = λ s u is_below. omega (arith, forks.low_below v far below above s (farther s is_below) u);
+        low_above = λ s u is_above other. omega arith;
+        low_here = λ s is_below. omega arith;
+        high_below = λ k s u is_below other. omega (
+          arith,
+          forks.high_below v far below above s (farther s is_below) k u other,
+        );
+        high_here = λ k s is_below. omega (arith, less, forks.high_here v far below above s (farther s is_below) k);
+        high_above = λ k s u is_above. omega arith;
       };
       fit = λ space lower upper fit other.
           fits_joined below below above (Fork v far below above) space v cut v far refl refl less lower fit other;
-      pass = λ test is p q. q;
+      pass = λ test is on_below on_above. on_above;
     }
 
 -- a tree whose list begins with that of another and ends in a cut behind it is a fork with that other as its side
@@ -84,8 +87,8 @@ module _ {T : Type 0} (v cut : ℕ) (below above : TreeNode T) where
 pub met_is : {T : Type 0} (a b : TreeNode T) (rest : List (TreeItem T)) (v far : ℕ) →
     flat a ≡ flat b ++ rest ++ (Cut v far (length (flat b)) ∷ []) →
     (y : TreeNode T) × (a ≡ Fork v far b y)
--- a leaf's list doesn't end in a cut; the last items of both lists are equal, so the fork is on v at `far`, and the items
--- before them begin with those of b
+-- a leaf's list doesn't end in a cut; the last items of both lists are equal, so the fork is on v at `far`, and the
+-- items before them begin with those of b
 met_is (Leaf x) b rest v far e = absurd (cut_is_no_value (sym (last_same [] (flat b ++ rest) (Value x) _ e)))
 met_is {T} (Fork u cut x y) b rest v far e =
     let same : Cut u cut (length (flat x)) ≡ Cut v far (length (flat b)) =

@@ -12,27 +12,36 @@ use Rattle.cpg_cube.specs.Cube.{holds, matches}
 module _ (s : Scenario) (l : Literal) where
   -- a literal doesn't hold if the number of its variable is below its low
   pub below_low : number_of s l.variable < l.low → holds s l ≡ false
-  below_low h = ap (λ b. b && nat_le (number_of s l.variable) l.high) (lt-leb l.low (number_of s l.variable) h)
+  below_low is_low = ap (λ b. b && nat_le (number_of s l.variable) l.high)
+      (lt-leb l.low (number_of s l.variable) is_low)
 
   -- a literal doesn't hold if the number is above its high
   pub above_high : l.high < number_of s l.variable → holds s l ≡ false
-  above_high h = ap (λ b. nat_le l.low (number_of s l.variable) && b) (lt-leb (number_of s l.variable) l.high h)
+  above_high is_high = ap (λ b. nat_le l.low (number_of s l.variable) && b)
+      (lt-leb (number_of s l.variable) l.high is_high)
       ∙ and-false (nat_le l.low (number_of s l.variable))
 
 -- a number up to the cut just under a low is under the low
 pub under : (low n : ℕ) → (low ≡ 0 → ⊥) → n ≤ low - 1 → n < low
-under low n some h = elim (cases_lt 0 low) [ inl l ↦ omega (arith, l, h) | inr l ↦ absurd (some (omega (arith, l))) ]
+under low n some up_to = elim (cases_lt 0 low) [
+  | inl less ↦ omega (arith, less, up_to)
+  | inr not_less ↦ absurd (some (omega (arith, not_less)))
+]
 
 -- a number from a low on is above the low less 1
 pub over : (low n : ℕ) → (low ≡ 0 → ⊥) → low ≤ n → low - 1 < n
-over low n some h = elim (cases_lt 0 low) [ inl l ↦ omega (arith, l, h) | inr l ↦ absurd (some (omega (arith, l))) ]
+over low n some from = elim (cases_lt 0 low) [
+  | inl less ↦ omega (arith, less, from)
+  | inr not_less ↦ absurd (some (omega (arith, not_less)))
+]
 
 -- given: a literal of a cube
 module _ (s : Scenario) (ls : List Literal) (i : ℕ) (d : Literal) (there : i < length ls) where
   -- if one literal does not hold, the cube does not match
   pub unmatched : holds s (get_or ls i d) ≡ false → matches ls s ≡ false
-  unmatched h = list_all_at (holds s) ls i d there h
+  unmatched fails = list_all_at (holds s) ls i d there fails
 
   -- if the cube matches, each of its literals holds
   pub each_holds : matches ls s ≡ true → holds s (get_or ls i d) ≡ true
-  each_holds all = true_from_ne_false (holds s (get_or ls i d)) (λ h. both_ways (matches ls s) (unmatched h) all)
+  each_holds all = true_from_ne_false (holds s (get_or ls i d))
+      (λ fails. both_ways (matches ls s) (unmatched fails) all)

@@ -41,13 +41,13 @@ module _ {T : Type 0} (space : Space) (v cut : ℕ) (x y n : TreeNode T) (items 
   pub part_above : (part : List (TreeItem T)) → ((s : Scenario) → IsInSpace space s → cut < number_of s v) →
       IsPartList space y part →
       IsPartList space n part
-  -- p: the tree that was added, how its list stands in the new one, and what is known of it, which carries over
-  part_above part only p = (
-    p.0,
-    p.1,
+  -- `added`: the tree that was added, how its list stands in the new one, and what is known of it, which carries over
+  part_above part only added = (
+    added.0,
+    added.1,
     record {
-      same = one_above_of (λ s x z. z ≡ x) (IsInSpace space) v cut x y n fork_is p.0 p.2.same only;
-      pass = λ test pass. p.2.pass test (passes_parts test v cut x y n fork_is pass).2;
+      same = one_above_of (λ s x z. z ≡ x) (IsInSpace space) v cut x y n fork_is added.0 added.2.same only;
+      pass = λ test pass. added.2.pass test (passes_parts test v cut x y n fork_is pass).2;
     },
   )
 
@@ -55,13 +55,13 @@ module _ {T : Type 0} (space : Space) (v cut : ℕ) (x y n : TreeNode T) (items 
   pub part_below : (part : List (TreeItem T)) → ((s : Scenario) → IsInSpace space s → number_of s v ≤ cut) →
       IsPartList space x part →
       IsPartList space n part
-  -- p: the tree that was added, how its list stands in the new one, and what is known of it, which carries over
-  part_below part only p = (
-    p.0,
-    p.1,
+  -- `added`: the tree that was added, how its list stands in the new one, and what is known of it, which carries over
+  part_below part only added = (
+    added.0,
+    added.1,
     record {
-      same = one_below_of (λ s x z. z ≡ x) (IsInSpace space) v cut x y n fork_is p.0 p.2.same only;
-      pass = λ test pass. p.2.pass test (passes_parts test v cut x y n fork_is pass).1;
+      same = one_below_of (λ s x z. z ≡ x) (IsInSpace space) v cut x y n fork_is added.0 added.2.same only;
+      pass = λ test pass. added.2.pass test (passes_parts test v cut x y n fork_is pass).1;
     },
   )
 
@@ -73,14 +73,14 @@ module _ {T : Type 0} (space : Space) (v cut : ℕ) (x y n : TreeNode T) (items 
     pub fills_above : ((s : Scenario) → IsInSpace space s → cut < number_of s v) →
         AddsTree (IsFilled answers space a y) old new →
         AddsTree (IsFilled answers space a n) old new
-    -- p: the tree that was added, how its list stands in the new one, and what is known of it, which carries over
-    fills_above only p = (
-      p.0,
-      p.1,
+    -- `added`: the tree that was added, how its list stands in the new one, and what is known of it, which carries over
+    fills_above only added = (
+      added.0,
+      added.1,
       record {
-        made = one_above_of (λ s y z. answers a y z) (IsInSpace space) v cut x y n fork_is p.0 p.2.made only;
-        fit = p.2.fit;
-        pass = λ test pass. p.2.pass test (passes_parts test v cut x y n fork_is pass).2;
+        made = one_above_of (λ s y z. answers a y z) (IsInSpace space) v cut x y n fork_is added.0 added.2.made only;
+        fit = added.2.fit;
+        pass = λ test pass. added.2.pass test (passes_parts test v cut x y n fork_is pass).2;
       },
     )
 
@@ -88,14 +88,14 @@ module _ {T : Type 0} (space : Space) (v cut : ℕ) (x y n : TreeNode T) (items 
     pub fills_below : ((s : Scenario) → IsInSpace space s → number_of s v ≤ cut) →
         AddsTree (IsFilled answers space a x) old new →
         AddsTree (IsFilled answers space a n) old new
-    -- p: the tree that was added, how its list stands in the new one, and what is known of it, which carries over
-    fills_below only p = (
-      p.0,
-      p.1,
+    -- `added`: the tree that was added, how its list stands in the new one, and what is known of it, which carries over
+    fills_below only added = (
+      added.0,
+      added.1,
       record {
-        made = one_below_of (λ s y z. answers a y z) (IsInSpace space) v cut x y n fork_is p.0 p.2.made only;
-        fit = p.2.fit;
-        pass = λ test pass. p.2.pass test (passes_parts test v cut x y n fork_is pass).1;
+        made = one_below_of (λ s y z. answers a y z) (IsInSpace space) v cut x y n fork_is added.0 added.2.made only;
+        fit = added.2.fit;
+        pass = λ test pass. added.2.pass test (passes_parts test v cut x y n fork_is pass).1;
       },
     )
 
@@ -111,8 +111,8 @@ module _ {T : Type 0} (space : Space) (v cut : ℕ) (x y n : TreeNode T) (items 
       -- the answers for both sides, joined by a fork, are those of the whole tree
       pub fills_fork : AddsTree (IsFilled answers shut a x) old low → AddsTree (IsFilled answers upper a y) low high →
           AddsTree (IsFilled answers space a n) old new
-      -- fork: the tree that takes the place of both; its values are those of the sides (`made`), it fits the space, as the sides
-      -- fit their parts of it (`fit`), and its variables are v and those of the sides (`pass`)
+      -- fork: the tree that takes the place of both; its values are those of the sides (`made`), it fits the space, as
+      -- the sides fit their parts of it (`fit`), and its variables are v and those of the sides (`pass`)
       fills_fork one two =
           let fork =
           forks old one.0 two.0 (split_of start middle old low high one.0 two.0 one.1 two.1 first second) in (
@@ -131,21 +131,22 @@ module _ {T : Type 0} (space : Space) (v cut : ℕ) (x y n : TreeNode T) (items 
 
   -- ---- two trees
 
-  -- given: a function's answers to the values of two trees, the second of which is m, and the list before and after they are added
+  -- given: a function's answers to the values of two trees, the second of which is m, and the list before and after
+  -- they are added
   module _ {U V : Type 0} (answers : T → U → V → Type 0) (m : TreeNode U) (old new : List (TreeItem V)) where
     -- if all scenarios of the space go above, the answers added for the side above are those of the whole tree
     pub joins_above : ((s : Scenario) → IsInSpace space s → cut < number_of s v) →
         AddsTree (IsJoined answers space y m) old new →
         AddsTree (IsJoined answers space n m) old new
-    -- p: the tree that was added, how its list stands in the new one, and what is known of it, which carries over
-    joins_above only p = (
-      p.0,
-      p.1,
+    -- `added`: the tree that was added, how its list stands in the new one, and what is known of it, which carries over
+    joins_above only added = (
+      added.0,
+      added.1,
       record {
         made = two_above_of (λ s x z. answers x (value_at m s) z) (λ s x u. low_at m s u) (λ k s x u. high_at k m s u)
-            (IsInSpace space) v cut x y n fork_is p.0 p.2.made only;
-        fit = p.2.fit;
-        pass = λ test pass other. p.2.pass test (passes_parts test v cut x y n fork_is pass).2 other;
+            (IsInSpace space) v cut x y n fork_is added.0 added.2.made only;
+        fit = added.2.fit;
+        pass = λ test pass other. added.2.pass test (passes_parts test v cut x y n fork_is pass).2 other;
       },
     )
 
@@ -153,15 +154,15 @@ module _ {T : Type 0} (space : Space) (v cut : ℕ) (x y n : TreeNode T) (items 
     pub joins_below : ((s : Scenario) → IsInSpace space s → number_of s v ≤ cut) →
         AddsTree (IsJoined answers space x m) old new →
         AddsTree (IsJoined answers space n m) old new
-    -- p: the tree that was added, how its list stands in the new one, and what is known of it, which carries over
-    joins_below only p = (
-      p.0,
-      p.1,
+    -- `added`: the tree that was added, how its list stands in the new one, and what is known of it, which carries over
+    joins_below only added = (
+      added.0,
+      added.1,
       record {
         made = two_below_of (λ s x z. answers x (value_at m s) z) (λ s x u. low_at m s u) (λ k s x u. high_at k m s u)
-            (IsInSpace space) v cut x y n fork_is p.0 p.2.made only;
-        fit = p.2.fit;
-        pass = λ test pass other. p.2.pass test (passes_parts test v cut x y n fork_is pass).1 other;
+            (IsInSpace space) v cut x y n fork_is added.0 added.2.made only;
+        fit = added.2.fit;
+        pass = λ test pass other. added.2.pass test (passes_parts test v cut x y n fork_is pass).1 other;
       },
     )
 
@@ -177,8 +178,8 @@ module _ {T : Type 0} (space : Space) (v cut : ℕ) (x y n : TreeNode T) (items 
       -- the answers for both sides, joined by a fork, are those of the whole tree
       pub joins_fork : AddsTree (IsJoined answers shut x m) old low → AddsTree (IsJoined answers upper y m) low high →
           AddsTree (IsJoined answers space n m) old new
-      -- fork: the tree that takes the place of both; its values are those of the sides (`made`), it fits the space, as the sides
-      -- fit their parts of it (`fit`), and its variables are v and those of the sides (`pass`)
+      -- fork: the tree that takes the place of both; its values are those of the sides (`made`), it fits the space, as
+      -- the sides fit their parts of it (`fit`), and its variables are v and those of the sides (`pass`)
       joins_fork one two =
           let fork =
           forks old one.0 two.0 (split_of start middle old low high one.0 two.0 one.1 two.1 first second) in (
@@ -199,7 +200,7 @@ module _ {T : Type 0} (space : Space) (v cut : ℕ) (x y n : TreeNode T) (items 
 filled_leaf : {A T V : Type 0} (answers : A → T → V → Type 0) (space : Space) (a : A) (x : T) (z : V) → answers a x z →
     IsFilled answers space a (Leaf x) (Leaf z)
 filled_leaf answers space a x z is = record {
-  made = record { value = λ s d. is; lows = λ s v d. omega arith; highs = λ k s v d. omega arith };
+  made = record { value = λ s inside. is; lows = λ s v inside. omega arith; highs = λ k s v inside. omega arith };
   fit = tt;
   pass = λ test pass. pass;
 }
@@ -221,15 +222,15 @@ pub joins_leaf : {T U V : Type 0} (answers : T → U → V → Type 0) (space : 
     (m : TreeNode U) (items : List (TreeItem T)) (old new : List (TreeItem V)) → items ≡ flat
     (Leaf x) → items ≡ flat n →
     AddsTree (IsFilled answers space x m) old new → AddsTree (IsJoined answers space n m) old new
--- p: the tree that was added, how its list stands in the new one, and what is known of it, which carries over
-joins_leaf answers space x n m items old new leaf are p = (
-  p.0,
-  p.1,
+-- `added`: the tree that was added, how its list stands in the new one, and what is known of it, which carries over
+joins_leaf answers space x n m items old new leaf are added = (
+  added.0,
+  added.1,
   record {
     made = two_leaf_of (λ s x z. answers x (value_at m s) z) (λ s x v. low_at m s v) (λ k s x v. high_at k m s v)
-        (IsInSpace space) x n (flat-same n (Leaf x) (sym are ∙ leaf)) p.0 p.2.made;
-    fit = p.2.fit;
-    pass = λ test pass other. p.2.pass test other;
+        (IsInSpace space) x n (flat-same n (Leaf x) (sym are ∙ leaf)) added.0 added.2.made;
+    fit = added.2.fit;
+    pass = λ test pass other. added.2.pass test other;
   },
 )
 
@@ -237,13 +238,13 @@ joins_leaf answers space x n m items old new leaf are p = (
 pub joins_whole : {T U V : Type 0} (answers : T → U → V → Type 0) (space : Space) (n : TreeNode T) (m part : TreeNode U)
     (old new : List (TreeItem V)) → IsPartInSpace space m part → AddsTree
     (IsJoined answers space n part) old new → AddsTree (IsJoined answers space n m) old new
--- p: the tree that was added, how its list stands in the new one, and what is known of it, which carries over
-joins_whole answers space n m part old new is p = (
-  p.0,
-  p.1,
+-- `added`: the tree that was added, how its list stands in the new one, and what is known of it, which carries over
+joins_whole answers space n m part old new is added = (
+  added.0,
+  added.1,
   record {
-    made = join_whole answers space n m part p.0 is.same p.2.made;
-    fit = p.2.fit;
-    pass = λ test pass other. p.2.pass test pass (is.pass test other);
+    made = join_whole answers space n m part added.0 is.same added.2.made;
+    fit = added.2.fit;
+    pass = λ test pass other. added.2.pass test pass (is.pass test other);
   },
 )

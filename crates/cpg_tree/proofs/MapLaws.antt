@@ -18,8 +18,12 @@ use Rattle.cpg_tree.proofs.Flats.{flat-same}
 module _ {T U : Type 0} (answers : T → U → Type 0) where
   -- a leaf is mapped to the leaf of its answer
   mapped_leaf : (x : T) (y : U) → answers x y → IsMapped answers (Leaf x) (Leaf y)
-  mapped_leaf x y a = record {
-    made = record { value = λ s d. a; lows = λ s v d. omega arith; highs = λ k s v d. omega arith };
+  mapped_leaf x y answered = record {
+    made = record {
+      value = λ s inside. answered;
+      lows = λ s v inside. omega arith;
+      highs = λ k s v inside. omega arith;
+    };
     fit = λ space fit. fit;
     pass = λ test pass. pass;
   }
@@ -30,7 +34,7 @@ module _ {T U : Type 0} (answers : T → U → Type 0) where
       IsMapped answers (Fork v cut x y) r
   mapped_fork v cut x y lo hi r one two fork = record {
     made = one_fork_of (λ s x z. answers x z) (λ s. ⊤) v cut x y (Fork v cut x y) refl r (λ s. ⊤)
-        (λ s. ⊤) lo hi one.made two.made fork.made (λ s d le. d) (λ s d gt. d);
+        (λ s. ⊤) lo hi one.made two.made fork.made (λ s inside at_most. inside) (λ s inside past_cut. inside);
     fit = λ space fit. fork.fit space fit.1 fit.2 (one.fit _ fit.3) (two.fit _ fit.4);
     pass = λ test pass. fork.pass test pass.0 (one.pass test pass.1) (two.pass test pass.2);
   }
@@ -39,10 +43,11 @@ module _ {T U : Type 0} (answers : T → U → Type 0) where
   pub maps_leaf : (x : T) (y : U) (n : TreeNode T) (items : List (TreeItem T)) (old new : List (TreeItem U)) →
       answers x y → items ≡ flat (Leaf x) → items ≡ flat n → new ≡ old ++
       (Value y ∷ []) → AddsTree (IsMapped answers n) old new
-  maps_leaf x y n items old new a is are added = (
+  maps_leaf x y n items old new answered is are added = (
     Leaf y,
     added,
-    subst (λ (m : TreeNode T). IsMapped answers m (Leaf y)) (flat-same (Leaf x) n (sym is ∙ are)) (mapped_leaf x y a),
+    subst (λ (m : TreeNode T). IsMapped answers m (Leaf y)) (flat-same (Leaf x) n (sym is ∙ are))
+        (mapped_leaf x y answered),
   )
 
   -- the answers of both sides are added, and then a fork is made of them

@@ -56,13 +56,13 @@ module _ {A : Type 0} (old : List A) (from count : ℕ) where
   pub moved_all : (left : ℕ) → left + count ≡ length old → from ≤ left →
       take left (moved left) ≡ take from old ++ drop (from + count) old
   moved_all left all after =
-      let s : List A = drop (from + count) old in
-      let long : length s ≡ left - from = omega (arith, length-drop (from + count) old, all, after) in
+      let rest : List A = drop (from + count) old in
+      let long : length rest ≡ left - from = omega (arith, length-drop (from + count) old, all, after) in
       let at : from + (left - from) ≡ left = omega (arith, after) in
       ap (λ n. take n (moved left)) (sym at)
-      ∙ take-paste old from s (left - from) (omega (arith, all, after)) (omega (arith, long))
-      ∙ ap (λ n. take from old ++ take n s) (sym long)
-      ∙ ap (λ (xs : List A). take from old ++ xs) (take_all (length s) s (omega arith))
+      ∙ take-paste old from rest (left - from) (omega (arith, all, after)) (omega (arith, long))
+      ∙ ap (λ n. take from old ++ take n rest) (sym long)
+      ∙ ap (λ (xs : List A). take from old ++ xs) (take_all (length rest) rest (omega arith))
 
   -- before any item is moved, the list is the old one
   pub moved_none : old ≡ moved from

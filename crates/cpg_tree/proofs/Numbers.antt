@@ -20,20 +20,20 @@ use Rattle.cpg_tree.proofs.Spaces.{number_le_top}
 
 -- a leaf has no forks on any variable
 pub leaf_only : {T : Type 0} (v : ℕ) (x : T) → ForksOnly v (Leaf x)
-leaf_only v x = record { low = λ s u n. omega arith; high = λ k s u n. omega arith }
+leaf_only v x = record { low = λ s u other. omega arith; high = λ k s u other. omega arith }
 
 -- a fork on a variable has no forks on others if its sides have none
 fork_only : {T : Type 0} (v cut : ℕ) (below above r : TreeNode T) → ForksOnly v below → ForksOnly v above →
     IsForkOf v cut below above r → ForksOnly v r
 -- a scenario finds for another variable what it finds on its side of the cut, which has no fork on it
 fork_only v cut below above r one two fork = record {
-  low = λ s u n. elim (cases_lt cut (number_of s v)) [
-    | inl gt ↦ omega (arith, fork.low_above s u gt n, two.low s u n)
-    | inr le ↦ omega (arith, fork.low_below s u le, one.low s u n)
+  low = λ s u other. elim (cases_lt cut (number_of s v)) [
+    | inl is_above ↦ omega (arith, fork.low_above s u is_above other, two.low s u other)
+    | inr is_below ↦ omega (arith, fork.low_below s u is_below, one.low s u other)
   ];
-  high = λ k s u n. elim (cases_lt cut (number_of s v)) [
-    | inl gt ↦ omega (arith, fork.high_above k s u gt, two.high k s u n)
-    | inr le ↦ omega (arith, fork.high_below k s u le n, one.high k s u n)
+  high = λ k s u other. elim (cases_lt cut (number_of s v)) [
+    | inl is_above ↦ omega (arith, fork.high_above k s u is_above, two.high k s u other)
+    | inr is_below ↦ omega (arith, fork.high_below k s u is_below other, one.high k s u other)
   ];
 }
 
@@ -48,8 +48,8 @@ pub more_counts : (p first k : ℕ) (above r : TreeNode ℕ) → AreCountsFrom p
 -- a scenario up to `first` finds `first`, and any other finds its count above; the forks of both sides are on p
 more_counts p first k above r rest fork = record {
   value = λ s low high. elim (cases_lt first (number_of s p)) [
-    | inl gt ↦ fork.value_above s gt ∙ rest.value s (omega (arith, gt)) high
-    | inr le ↦ fork.value_below s le ∙ omega (arith, low, le)
+    | inl is_above ↦ fork.value_above s is_above ∙ rest.value s (omega (arith, is_above)) high
+    | inr is_below ↦ fork.value_below s is_below ∙ omega (arith, low, is_below)
   ];
   only = fork_only p first (Leaf first) above r (leaf_only p first) rest.only fork;
 }
@@ -126,8 +126,8 @@ pub number_paths : {T : Type 0} (v k : ℕ) (number : T → ℕ) (node : TreeNod
 number_paths v k number node good value only = record {
   faults = refl;
   value = λ s x few on. ap number (found k node good s x on).value ∙ value s few;
-  low = λ s x u few on n. omega (arith, (found k node good s x on).low u, only.low s u n);
-  high = λ s x u few on n. omega (arith, (found k node good s x on).high u, only.high k s u n);
+  low = λ s x u few on other. omega (arith, (found k node good s x on).low u, only.low s u other);
+  high = λ s x u few on other. omega (arith, (found k node good s x on).high u, only.high k s u other);
 }
 
 -- ---- there is a space of all scenarios
@@ -140,9 +140,10 @@ some_whole k = (
   record {
     long = search rules;
     high_long = length-map-range_with_len tops 0 256;
-    lows = λ v l. get_or-replicate 256 v 0 0 l;
-    counts = λ v l. get_or-map-below tops 256 v 0 (omega (arith, l)) ∙ cond-true (nat_lt v 128) k 1 (lt-ltb v 128 l);
-    values = λ v h l. get_or-map-below tops 256 v 0 l ∙ cond-false (nat_lt v 128) k 1 (le-ltb v 128 h);
+    lows = λ v below. get_or-replicate 256 v 0 0 below;
+    counts = λ v below. get_or-map-below tops 256 v 0 (omega (arith, below))
+        ∙ cond-true (nat_lt v 128) k 1 (lt-ltb v 128 below);
+    values = λ v from below. get_or-map-below tops 256 v 0 below ∙ cond-false (nat_lt v 128) k 1 (le-ltb v 128 from);
     left = refl;
   },
 )
@@ -155,8 +156,8 @@ some_whole k = (
 module _ (k : ℕ) (s : Scenario) (few : HasAtMostFaults k s) (v : ℕ) where
   -- a count of the scenario is at most k
   pub count_at_most : v < 128 → number_of s v ≤ k
-  count_at_most l = omega (arith, number_le_top k s few v, cond-true (nat_lt v 128) k 1 (lt-ltb v 128 l))
+  count_at_most below = omega (arith, number_le_top k s few v, cond-true (nat_lt v 128) k 1 (lt-ltb v 128 below))
 
   -- a value has the number 0 or 1
   pub value_at_most : 128 ≤ v → number_of s v ≤ 1
-  value_at_most l = omega (arith, number_le_top k s few v, cond-false (nat_lt v 128) k 1 (le-ltb v 128 l))
+  value_at_most from = omega (arith, number_le_top k s few v, cond-false (nat_lt v 128) k 1 (le-ltb v 128 from))

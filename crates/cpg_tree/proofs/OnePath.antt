@@ -47,22 +47,22 @@ pub the_path : {T : Type 0} (k : ℕ) (paths : List (Path T)) → HasOnePathEach
     HasAtMostFaults k s →
     (x : Path T) × IsOnPath paths s x
 the_path k paths each s few =
-    let f = first_of_one (filter (is_on s) paths) (each s few) in
-    let parts = Contains-filter_parts (is_on s) paths f.0 f.1 in
-    (f.0, record { stands = parts.0; matched = parts.1 })
+    let found = first_of_one (filter (is_on s) paths) (each s few) in
+    let parts = Contains-filter_parts (is_on s) paths found.0 found.1 in
+    (found.0, record { stands = parts.0; matched = parts.1 })
 
 -- what is in a list of one element is that element
 the_only : {X : Type 0} (z x : X) → Contains (z ∷ []) x → z ≡ x
-the_only z x c = elim (Contains-cases z [] x c) [
+the_only z x listed = elim (Contains-cases z [] x listed) [
   | inl same ↦ same
   | inr none ↦ absurd (Contains-nil x none)
 ]
 
 -- any two members of a list of one are equal
 same_of_one : {X : Type 0} (xs : List X) → length xs ≡ 1 → (x y : X) → Contains xs x → Contains xs y → x ≡ y
-same_of_one [] e x y a b = absurd (Contains-nil x a)
-same_of_one (z ∷ []) e x y a b = sym (the_only z x a) ∙ the_only z y b
-same_of_one (z ∷ w ∷ zs) e x y a b = absurd (omega (arith, e))
+same_of_one [] one x y x_listed y_listed = absurd (Contains-nil x x_listed)
+same_of_one (z ∷ []) one x y x_listed y_listed = sym (the_only z x x_listed) ∙ the_only z y y_listed
+same_of_one (z ∷ w ∷ zs) one x y x_listed y_listed = absurd (omega (arith, one))
 
 -- two paths of one scenario are the same
 pub same_path : {T : Type 0} (k : ℕ) (paths : List (Path T)) → HasOnePathEach k paths → (s : Scenario) →

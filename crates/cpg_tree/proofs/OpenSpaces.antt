@@ -60,85 +60,88 @@ module _ (k : ℕ) (space : Space) (is : IsOpenSpace k space) (v cut : ℕ) (the
   set_high : (u : ℕ) → (u ≡ v) ⊎ (u ≢ v) →
       ((u ≡ v) × (get_or (slice_set space.high v cut) u 0 ≡ cut)) ⊎
       (get_or (slice_set space.high v cut) u 0 ≡ get_or space.high u 0)
-  set_high u (inl e) = inl (
-    e,
-    subst (λ w. get_or (slice_set space.high v cut) w 0 ≡ cut) (sym e)
+  set_high u (inl is_v) = inl (
+    is_v,
+    subst (λ w. get_or (slice_set space.high v cut) w 0 ≡ cut) (sym is_v)
         (get_or-set_same space.high v cut 0 (omega (arith, is.highs, there))),
   )
-  set_high u (inr n) = inr (get_or-set_other space.high v u cut 0 n)
+  set_high u (inr other) = inr (get_or-set_other space.high v u cut 0 other)
 
   -- a low that is set stands at its variable, and the others stay
   set_low : (u : ℕ) → (u ≡ v) ⊎ (u ≢ v) →
       ((u ≡ v) × (get_or (slice_set space.low v (cut + 1)) u 0 ≡ cut + 1)) ⊎
       (get_or (slice_set space.low v (cut + 1)) u 0 ≡ get_or space.low u 0)
-  set_low u (inl e) = inl (
-    e,
-    subst (λ w. get_or (slice_set space.low v (cut + 1)) w 0 ≡ cut + 1) (sym e)
+  set_low u (inl is_v) = inl (
+    is_v,
+    subst (λ w. get_or (slice_set space.low v (cut + 1)) w 0 ≡ cut + 1) (sym is_v)
         (get_or-set_same space.low v (cut + 1) 0 (omega (arith, is.lows, there))),
   )
-  set_low u (inr n) = inr (get_or-set_other space.low v u (cut + 1) 0 n)
+  set_low u (inr other) = inr (get_or-set_other space.low v u (cut + 1) 0 other)
 
   -- the space stays open on either side of the cut
   pub opens_below : IsOpenSpace k (below_cut space v cut)
-  -- the high of v is the cut, at least its low and at most its top; the ranges of other variables and the faults left stay
+  -- the high of v is the cut, at least its low and at most its top; the ranges of other variables and the faults left
+  -- stay
   opens_below = record {
     lows = is.lows;
     highs = length-set space.high v cut ∙ is.highs;
-    opens = λ u l. elim (set_high u (cases_eq u v)) [
-      | inl c ↦ omega (arith, c.1, low_at_most, ap (λ w. get_or space.low w 0) c.0)
-      | inr e ↦ omega (arith, e, is.opens u l)
+    opens = λ u small. elim (set_high u (cases_eq u v)) [
+      | inl at_v ↦ omega (arith, at_v.1, low_at_most, ap (λ w. get_or space.low w 0) at_v.0)
+      | inr stays ↦ omega (arith, stays, is.opens u small)
     ];
-    tops = λ u l. elim (set_high u (cases_eq u v)) [
-      | inl c ↦ omega (arith, c.1, cut_under, ap (top k) c.0)
-      | inr e ↦ omega (arith, e, is.tops u l)
+    tops = λ u small. elim (set_high u (cases_eq u v)) [
+      | inl at_v ↦ omega (arith, at_v.1, cut_under, ap (top k) at_v.0)
+      | inr stays ↦ omega (arith, stays, is.tops u small)
     ];
     budget = is.budget;
   }
 
   -- the faults that are left suffice for a count above the cut
   allows : v < 128 → cut < get_or space.low v 0 + space.left
-  allows l = elim (or_cases (nat_le 128 v) (nat_lt cut (get_or space.low v 0 + space.left))
+  allows is_count = elim (or_cases (nat_le 128 v) (nat_lt cut (get_or space.low v 0 + space.left))
       (and_parts (nat_lt cut (get_or space.high v 0)) _ upper).1) [
-        | inl h ↦ absurd (omega (arith, leb-true 128 v h, l))
-        | inr h ↦ ltb-true cut (get_or space.low v 0 + space.left) h
+        | inl is_value ↦ absurd (omega (arith, leb-true 128 v is_value, is_count))
+        | inr room ↦ ltb-true cut (get_or space.low v 0 + space.left) room
       ]
 
   -- an open space stays open above the cut; by kind: a count spends the faults up to the cut, and a value none
   pub opens_above : IsOpenSpace k (above_cut space v cut)
-  -- The low of v becomes `cut + 1`, and those of other variables stay. For the budget: if v is a count, the lows grow by as many
-  -- as are taken from the faults left; if it is a value, both stay.
+  -- The low of v becomes `cut + 1`, and those of other variables stay. For the budget: if v is a count, the lows grow
+  -- by as many as are taken from the faults left; if it is a value, both stay.
   opens_above = record {
     lows = length-set space.low v (cut + 1) ∙ is.lows;
     highs = is.highs;
-    opens = λ u l. elim (set_low u (cases_eq u v)) [
-      | inl c ↦ omega (arith, c.1, cut_less, ap (λ w. get_or space.high w 0) c.0)
-      | inr e ↦ omega (arith, e, is.opens u l)
+    opens = λ u small. elim (set_low u (cases_eq u v)) [
+      | inl at_v ↦ omega (arith, at_v.1, cut_less, ap (λ w. get_or space.high w 0) at_v.0)
+      | inr stays ↦ omega (arith, stays, is.opens u small)
     ];
     tops = is.tops;
     budget = elim (cases_lt v 128) [
-      | inl l ↦
+      | inl is_count ↦
           let changed = sum_changed (λ p. get_or (slice_set space.low v (cut + 1)) p 0)
-          (λ p. get_or space.low p 0) 128 v l (λ u n. get_or-set_other space.low v u (cut + 1) 0 n) in
+          (λ p. get_or space.low p 0) 128 v is_count (λ u other. get_or-set_other space.low v u (cut + 1) 0 other) in
           let here = ap (λ m. sum_by (λ p. get_or space.low p 0) (numbers_below 128) + m)
           (get_or-set_same space.low v (cut + 1) 0 (omega (arith, is.lows, there))) in
           subst (λ n.
           sum_by (λ p. get_or (slice_set space.low v (cut + 1)) p 0) (numbers_below 128) + (space.left - n) ≤ k)
-          (sym (cond-true (nat_lt v 128) (cut + 1 - get_or space.low v 0) 0 (lt-ltb v 128 l)))
-          (more_asked _ _ (get_or space.low v 0) cut space.left k (changed ∙ here) is.budget low_at_most (allows l))
-      | inr l ↦
+          (sym (cond-true (nat_lt v 128) (cut + 1 - get_or space.low v 0) 0 (lt-ltb v 128 is_count)))
+          (more_asked _ _ (get_or space.low v 0) cut space.left k (changed ∙ here) is.budget low_at_most
+          (allows is_count))
+      | inr is_value ↦
           let same = same_sum_by (λ p. get_or (slice_set space.low v (cut + 1)) p 0) (λ p. get_or space.low p 0)
           (numbers_below 128)
-          (λ u c. get_or-set_other space.low v u (cut + 1) 0 (λ e. omega (arith, numbers-Contains 128 u c, e, l))) in
+          (λ u listed. get_or-set_other space.low v u (cut + 1) 0
+          (λ is_v. omega (arith, numbers-Contains 128 u listed, is_v, is_value))) in
           subst (λ n.
           sum_by (λ p. get_or (slice_set space.low v (cut + 1)) p 0) (numbers_below 128) + (space.left - n) ≤ k)
-          (sym (cond-false (nat_lt v 128) (cut + 1 - get_or space.low v 0) 0 (le-ltb v 128 l)))
+          (sym (cond-false (nat_lt v 128) (cut + 1 - get_or space.low v 0) 0 (le-ltb v 128 is_value)))
           (as_before _ _ space.left k same is.budget)
     ];
   }
     where
       -- as many faults are asked for as before, and none of those left is taken, so the sum is still at most k
       as_before : (new old left k : ℕ) → new ≡ old → old + left ≤ k → new + (left - 0) ≤ k
-      as_before new old left k e h = omega arith
+      as_before new old left k same fits = omega arith
 
   -- given: a cube that covers the space
   module _ (cube : List Literal) (covers : CoversSpace k space cube) where
@@ -147,24 +150,24 @@ module _ (k : ℕ) (space : Space) (is : IsOpenSpace k space) (v cut : ℕ) (the
     -- v itself has the cut as its high in both the cube and the space; the ranges of each other variable stay
     covers_below = record {
       rising = rising-narrowed (up_to v cut) cube covers.rising;
-      low = λ u l. elim (cases_eq v u) [
-        | inl e ↦ subst (λ w. low_in (narrowed_by (up_to v cut) cube) w ≤ get_or space.low w 0) e
+      low = λ u small. elim (cases_eq v u) [
+        | inl is_v ↦ subst (λ w. low_in (narrowed_by (up_to v cut) cube) w ≤ get_or space.low w 0) is_v
             (omega (arith, low-same k (up_to v cut) cube covers.rising, covers.low v there))
-        | inr n ↦ omega (arith, low-other k (up_to v cut) cube u n, covers.low u l)
+        | inr other ↦ omega (arith, low-other k (up_to v cut) cube u other, covers.low u small)
       ];
-      high = λ u l. elim (set_high u (cases_eq u v)) [
-        | inl c ↦ subst (λ w. get_or (slice_set space.high v cut) u 0 ≤ high_in k (narrowed_by (up_to v cut) cube) w)
-            (sym c.0)
+      high = λ u small. elim (set_high u (cases_eq u v)) [
+        | inl at_v ↦ subst (λ w. get_or (slice_set space.high v cut) u 0 ≤ high_in k (narrowed_by (up_to v cut) cube) w)
+            (sym at_v.0)
             (omega (
               arith,
-              c.1,
+              at_v.1,
               high-same k (up_to v cut) cube covers.rising (omega (arith, cut_under)),
               covers.high v there,
               cut_less,
             ))
-        | inr e ↦ elim (cases_eq v u) [
-          | inl s ↦
-              subst (λ w. get_or (slice_set space.high v cut) w 0 ≤ high_in k (narrowed_by (up_to v cut) cube) w) s
+        | inr stays ↦ elim (cases_eq v u) [
+          | inl is_v ↦
+              subst (λ w. get_or (slice_set space.high v cut) w 0 ≤ high_in k (narrowed_by (up_to v cut) cube) w) is_v
               (omega (
                 arith,
                 get_or-set_same space.high v cut 0 (omega (arith, is.highs, there)),
@@ -172,13 +175,13 @@ module _ (k : ℕ) (space : Space) (is : IsOpenSpace k space) (v cut : ℕ) (the
                 covers.high v there,
                 cut_less,
               ))
-          | inr n ↦ omega (arith, e, high-other k (up_to v cut) cube u n, covers.high u l)
+          | inr other ↦ omega (arith, stays, high-other k (up_to v cut) cube u other, covers.high u small)
         ]
       ];
       within = λ u. elim (cases_eq v u) [
-        | inl e ↦ subst (λ w. high_in k (narrowed_by (up_to v cut) cube) w ≤ top k w) e
+        | inl is_v ↦ subst (λ w. high_in k (narrowed_by (up_to v cut) cube) w ≤ top k w) is_v
             (omega (arith, high-same k (up_to v cut) cube covers.rising (omega (arith, cut_under)), cut_under))
-        | inr n ↦ omega (arith, high-other k (up_to v cut) cube u n, covers.within u)
+        | inr other ↦ omega (arith, high-other k (up_to v cut) cube u other, covers.within u)
       ];
     }
 
@@ -187,9 +190,9 @@ module _ (k : ℕ) (space : Space) (is : IsOpenSpace k space) (v cut : ℕ) (the
     -- v itself has its low raised to `cut + 1` in both the cube and the space; the ranges of each other variable stay
     covers_above = record {
       rising = rising-narrowed (above k v cut) cube covers.rising;
-      low = λ u l. elim (cases_eq v u) [
-        | inl e ↦
-            subst (λ w. low_in (narrowed_by (above k v cut) cube) w ≤ get_or (slice_set space.low v (cut + 1)) w 0) e
+      low = λ u small. elim (cases_eq v u) [
+        | inl is_v ↦
+            subst (λ w. low_in (narrowed_by (above k v cut) cube) w ≤ get_or (slice_set space.low v (cut + 1)) w 0) is_v
             (omega (
               arith,
               get_or-set_same space.low v (cut + 1) 0 (omega (arith, is.lows, there)),
@@ -197,27 +200,27 @@ module _ (k : ℕ) (space : Space) (is : IsOpenSpace k space) (v cut : ℕ) (the
               covers.low v there,
               low_at_most,
             ))
-        | inr n ↦ omega (
+        | inr other ↦ omega (
           arith,
-          get_or-set_other space.low v u (cut + 1) 0 (λ e. n (sym e)),
-          low-other k (above k v cut) cube u n,
-          covers.low u l,
+          get_or-set_other space.low v u (cut + 1) 0 (λ equal. other (sym equal)),
+          low-other k (above k v cut) cube u other,
+          covers.low u small,
         )
       ];
-      high = λ u l. elim (cases_eq v u) [
-        | inl e ↦ subst (λ w. get_or space.high w 0 ≤ high_in k (narrowed_by (above k v cut) cube) w) e
+      high = λ u small. elim (cases_eq v u) [
+        | inl is_v ↦ subst (λ w. get_or space.high w 0 ≤ high_in k (narrowed_by (above k v cut) cube) w) is_v
             (omega (
               arith,
               high-same k (above k v cut) cube covers.rising (omega arith),
               covers.high v there,
               is.tops v there,
             ))
-        | inr n ↦ omega (arith, high-other k (above k v cut) cube u n, covers.high u l)
+        | inr other ↦ omega (arith, high-other k (above k v cut) cube u other, covers.high u small)
       ];
       within = λ u. elim (cases_eq v u) [
-        | inl e ↦ subst (λ w. high_in k (narrowed_by (above k v cut) cube) w ≤ top k w) e
+        | inl is_v ↦ subst (λ w. high_in k (narrowed_by (above k v cut) cube) w ≤ top k w) is_v
             (omega (arith, high-same k (above k v cut) cube covers.rising (omega arith)))
-        | inr n ↦ omega (arith, high-other k (above k v cut) cube u n, covers.within u)
+        | inr other ↦ omega (arith, high-other k (above k v cut) cube u other, covers.within u)
       ];
     }
 
@@ -229,15 +232,15 @@ pub whole_opens : (k : ℕ) (space : Space) → IsWhole k space → IsOpenSpace 
 whole_opens k space whole = record {
   lows = whole.long;
   highs = whole.high_long;
-  opens = λ v l. omega (arith, whole.lows v l);
-  tops = λ v l. elim (cases_lt v 128) [
-    | inl m ↦ omega (arith, whole.counts v m, cond-true (nat_lt v 128) k 1 (lt-ltb v 128 m))
-    | inr m ↦ omega (arith, whole.values v m l, cond-false (nat_lt v 128) k 1 (le-ltb v 128 m))
+  opens = λ v small. omega (arith, whole.lows v small);
+  tops = λ v small. elim (cases_lt v 128) [
+    | inl is_count ↦ omega (arith, whole.counts v is_count, cond-true (nat_lt v 128) k 1 (lt-ltb v 128 is_count))
+    | inr is_value ↦ omega (arith, whole.values v is_value small, cond-false (nat_lt v 128) k 1 (le-ltb v 128 is_value))
   ];
   budget = omega (
     arith,
     sum_by_zeros (λ p. get_or space.low p 0) (numbers_below 128)
-        (λ p c. whole.lows p (omega (arith, numbers-Contains 128 p c))),
+        (λ p listed. whole.lows p (omega (arith, numbers-Contains 128 p listed))),
     whole.left,
   );
 }
@@ -245,8 +248,8 @@ whole_opens k space whole = record {
 -- the cube without literals covers the space of all scenarios
 pub whole_covers : (k : ℕ) (space : Space) → IsWhole k space → CoversSpace k space []
 whole_covers k space whole = record {
-  rising = λ i j d l m. absurd (omega (arith, m));
-  low = λ v l. omega arith;
-  high = λ v l. (whole_opens k space whole).tops v l;
+  rising = λ i j d i_below j_below. absurd (omega (arith, j_below));
+  low = λ v below. omega arith;
+  high = λ v small. (whole_opens k space whole).tops v small;
   within = λ v. omega arith;
 }

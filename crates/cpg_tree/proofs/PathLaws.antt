@@ -34,11 +34,11 @@ Reaches k space = (v : ℕ) → v < 256 → get_or space.high v 0 ≤ top k v
 reaches_below : (k : ℕ) (space : Space) (v cut : ℕ) → cut < top k v → Reaches k space →
     Reaches k (below_cut space v cut)
 unfolding Reaches
-reaches_below k space v cut less h u l = by_place (cases_eq u v)
+reaches_below k space v cut less reaches u below_256 = by_place (cases_eq u v)
   where
     -- v's own high is the cut, or 0 if v is behind the list
     at_cut : (v < length space.high) ⊎ (length space.high ≤ v) → get_or (slice_set space.high v cut) v 0 ≤ top k v
-    at_cut (inl m) = omega (arith, get_or-set_same space.high v cut 0 m, less)
+    at_cut (inl inside) = omega (arith, get_or-set_same space.high v cut 0 inside, less)
     at_cut (inr past) = omega (arith, less, grown past)
       where
         -- behind the list nothing is set
@@ -51,34 +51,39 @@ reaches_below k space v cut less h u l = by_place (cases_eq u v)
 
     -- no high is above the top, at the cut's variable or another
     by_place : (u ≡ v) ⊎ (u ≢ v) → get_or (slice_set space.high v cut) u 0 ≤ top k u
-    by_place (inr n) = omega (arith, get_or-set_other space.high v u cut 0 n, h u l)
-    by_place (inl e) =
-        subst (λ w. get_or (slice_set space.high v cut) w 0 ≤ top k w) (sym e) (at_cut (cases_lt v (length space.high)))
+    by_place (inr other) = omega (arith, get_or-set_other space.high v u cut 0 other, reaches u below_256)
+    by_place (inl is_v) =
+        subst (λ w. get_or (slice_set space.high v cut) w 0 ≤ top k w) (sym is_v)
+        (at_cut (cases_lt v (length space.high)))
 
 -- if a tree fits a space, each of its cuts is below the greatest number of its variable
 fits_cuts : {T : Type 0} (k : ℕ) (node : TreeNode T) (space : Space) → Reaches k space → IsFit space node →
     HasCuts k node
 unfolding Reaches
 -- by induction on the tree: a leaf, then a fork by its two sides
-fits_cuts k (Leaf x) space h fit = tt
-fits_cuts k (Fork v cut below above) space h fit =
+fits_cuts k (Leaf x) space reaches fit = tt
+fits_cuts k (Fork v cut below above) space reaches fit =
     let less : cut < top k v = omega (
       arith,
       ltb-true cut (get_or space.high v 0) (and_parts (nat_lt cut (get_or space.high v 0)) _ fit.2).0,
-      h v fit.0,
+      reaches v fit.0,
     ) in (
       fit.0,
       less,
-      fits_cuts k below (below_cut space v cut) (reaches_below k space v cut less h) fit.3,
-      fits_cuts k above (above_cut space v cut) h fit.4,
+      fits_cuts k below (below_cut space v cut) (reaches_below k space v cut less reaches) fit.3,
+      fits_cuts k above (above_cut space v cut) reaches fit.4,
     )
 
 -- no high of the whole space is above the whole range
 whole_reaches : (k : ℕ) (space : Space) → IsWhole k space → Reaches k space
 unfolding Reaches
-whole_reaches k space whole v l = elim (cases_lt v 128) [
-  | inl m ↦ omega (arith, whole.counts v m, cond-true (nat_lt v 128) k 1 (lt-ltb v 128 m))
-  | inr m ↦ omega (arith, whole.values v m l, cond-false (nat_lt v 128) k 1 (le-ltb v 128 m))
+whole_reaches k space whole v below_256 = elim (cases_lt v 128) [
+  | inl is_count ↦ omega (arith, whole.counts v is_count, cond-true (nat_lt v 128) k 1 (lt-ltb v 128 is_count))
+  | inr is_value ↦ omega (
+    arith,
+    whole.values v is_value below_256,
+    cond-false (nat_lt v 128) k 1 (le-ltb v 128 is_value),
+  )
 ]
 
 -- in a good tree each cut is below the greatest number that its variable can have
@@ -100,9 +105,9 @@ module _ (k : ℕ) (cube : List Literal) (tidy : IsTidy k cube) (v cut : ℕ) (l
   tidy_below = record {
     rising = rising-narrowed (up_to v cut) cube tidy.rising;
     within = λ u. elim (cases_eq v u) [
-      | inl e ↦ subst (λ w. high_in k (narrowed_by (up_to v cut) cube) w ≤ top k w) e
+      | inl is_v ↦ subst (λ w. high_in k (narrowed_by (up_to v cut) cube) w ≤ top k w) is_v
           (omega (arith, high-same k (up_to v cut) cube tidy.rising (omega (arith, less)), less))
-      | inr n ↦ omega (arith, high-other k (up_to v cut) cube u n, tidy.within u)
+      | inr other ↦ omega (arith, high-other k (up_to v cut) cube u other, tidy.within u)
     ];
   }
 
@@ -112,9 +117,9 @@ module _ (k : ℕ) (cube : List Literal) (tidy : IsTidy k cube) (v cut : ℕ) (l
   tidy_above = record {
     rising = rising-narrowed (above k v cut) cube tidy.rising;
     within = λ u. elim (cases_eq v u) [
-      | inl e ↦ subst (λ w. high_in k (narrowed_by (above k v cut) cube) w ≤ top k w) e
+      | inl is_v ↦ subst (λ w. high_in k (narrowed_by (above k v cut) cube) w ≤ top k w) is_v
           (omega (arith, high-same k (above k v cut) cube tidy.rising (omega arith)))
-      | inr n ↦ omega (arith, high-other k (above k v cut) cube u n, tidy.within u)
+      | inr other ↦ omega (arith, high-other k (above k v cut) cube u other, tidy.within u)
     ];
   }
 
@@ -133,33 +138,44 @@ module _ {T : Type 0} (k : ℕ) (s : Scenario) where
   path_below : (cube : List Literal) → IsTidy k cube → (v cut : ℕ) (below : TreeNode T) (upper : TreeNode T) →
       cut < top k v → (x : Path T) →
       IsPathOf (narrowed_by (up_to v cut) cube) below x → IsPathOf cube (Fork v cut below upper) x
-  -- The scenario matches the narrowed cube, so it goes below the cut and finds there what the fork has. The high of v is at most
-  -- the cut, by the cube and by the fork; the ranges of other variables are those of the side.
-  path_below cube tidy v cut below upper less x t =
+  -- The scenario matches the narrowed cube, so it goes below the cut and finds there what the fork has. The high of v
+  -- is at most the cut, by the cube and by the fork; the ranges of other variables are those of the side.
+  path_below cube tidy v cut below upper less x of_side =
       let both =
-      and_parts (holds s (up_to v cut)) (matches cube s) (sym (matches-narrowed s (up_to v cut) cube) ∙ t.came) in
-      let le : number_of s v ≤ cut = holds-high s (up_to v cut) both.0 in
+      and_parts (holds s (up_to v cut)) (matches cube s) (sym (matches-narrowed s (up_to v cut) cube) ∙ of_side.came) in
+      let is_below : number_of s v ≤ cut = holds-high s (up_to v cut) both.0 in
       record {
         came = both.1;
-        value = t.value ∙ sym (value_below v cut below upper s le);
+        value = of_side.value ∙ sym (value_below v cut below upper s is_below);
         low = λ u. elim (cases_eq v u) [
-          | inl e ↦ subst (λ w. low_in x.0 w ≡ max (low_in cube w) (low_at (Fork v cut below upper) s w)) e
-              (omega (arith, t.low v, low-same k (up_to v cut) cube tidy.rising, low_below v cut below upper s le v))
-          | inr n ↦ omega (arith, t.low u, low-other k (up_to v cut) cube u n, low_below v cut below upper s le u)
-        ];
-        high = λ u. elim (cases_eq v u) [
-          | inl e ↦ subst (λ w. high_in k x.0 w ≡ min (high_in k cube w) (high_at k (Fork v cut below upper) s w)) e
+          | inl is_v ↦ subst (λ w. low_in x.0 w ≡ max (low_in cube w) (low_at (Fork v cut below upper) s w)) is_v
               (omega (
                 arith,
-                t.high v,
-                high-same k (up_to v cut) cube tidy.rising (omega (arith, less)),
-                high_here v cut below upper s le k,
+                of_side.low v,
+                low-same k (up_to v cut) cube tidy.rising,
+                low_below v cut below upper s is_below v,
               ))
-          | inr n ↦ omega (
+          | inr other ↦ omega (
             arith,
-            t.high u,
-            high-other k (up_to v cut) cube u n,
-            high_below v cut below upper s le k u (λ i. n (sym i)),
+            of_side.low u,
+            low-other k (up_to v cut) cube u other,
+            low_below v cut below upper s is_below u,
+          )
+        ];
+        high = λ u. elim (cases_eq v u) [
+          | inl is_v ↦ subst (λ w. high_in k x.0 w ≡ min (high_in k cube w) (high_at k (Fork v cut below upper) s w))
+              is_v
+              (omega (
+                arith,
+                of_side.high v,
+                high-same k (up_to v cut) cube tidy.rising (omega (arith, less)),
+                high_here v cut below upper s is_below k,
+              ))
+          | inr other ↦ omega (
+            arith,
+            of_side.high u,
+            high-other k (up_to v cut) cube u other,
+            high_below v cut below upper s is_below k u (λ equal. other (sym equal)),
           )
         ];
       }
@@ -168,36 +184,47 @@ module _ {T : Type 0} (k : ℕ) (s : Scenario) where
   path_above : (cube : List Literal) → IsTidy k cube → (v cut : ℕ) (below : TreeNode T) (upper : TreeNode T) →
       cut < top k v → (x : Path T) →
       IsPathOf (narrowed_by (above k v cut) cube) upper x → IsPathOf cube (Fork v cut below upper) x
-  -- The scenario matches the narrowed cube, so it goes above the cut and finds there what the fork has. The low of v is at least
-  -- `cut + 1`, by the cube and by the fork; the ranges of other variables are those of the side.
-  path_above cube tidy v cut below upper less x t =
+  -- The scenario matches the narrowed cube, so it goes above the cut and finds there what the fork has. The low of v is
+  -- at least `cut + 1`, by the cube and by the fork; the ranges of other variables are those of the side.
+  path_above cube tidy v cut below upper less x of_side =
       let both = and_parts (holds s (above k v cut)) (matches cube s)
-      (sym (matches-narrowed s (above k v cut) cube) ∙ t.came) in
-      let gt : cut < number_of s v = let l = holds-low s (above k v cut) both.0 in omega (arith, l) in
+      (sym (matches-narrowed s (above k v cut) cube) ∙ of_side.came) in
+      let is_above : cut < number_of s v = let its_low = holds-low s (above k v cut) both.0 in omega (arith, its_low) in
       record {
         came = both.1;
-        value = t.value ∙ sym (value_above v cut below upper s gt);
+        value = of_side.value ∙ sym (value_above v cut below upper s is_above);
         low = λ u. elim (cases_eq v u) [
-          | inl e ↦ subst (λ w. low_in x.0 w ≡ max (low_in cube w) (low_at (Fork v cut below upper) s w)) e
-              (omega (arith, t.low v, low-same k (above k v cut) cube tidy.rising, low_here v cut below upper s gt))
-          | inr n ↦ omega (
+          | inl is_v ↦ subst (λ w. low_in x.0 w ≡ max (low_in cube w) (low_at (Fork v cut below upper) s w)) is_v
+              (omega (
+                arith,
+                of_side.low v,
+                low-same k (above k v cut) cube tidy.rising,
+                low_here v cut below upper s is_above,
+              ))
+          | inr other ↦ omega (
             arith,
-            t.low u,
-            low-other k (above k v cut) cube u n,
-            low_above v cut below upper s gt u (λ i. n (sym i)),
+            of_side.low u,
+            low-other k (above k v cut) cube u other,
+            low_above v cut below upper s is_above u (λ equal. other (sym equal)),
           )
         ];
         high = λ u. elim (cases_eq v u) [
-          | inl e ↦ subst (λ w. high_in k x.0 w ≡ min (high_in k cube w) (high_at k (Fork v cut below upper) s w)) e
+          | inl is_v ↦ subst (λ w. high_in k x.0 w ≡ min (high_in k cube w) (high_at k (Fork v cut below upper) s w))
+              is_v
               (omega (
                 arith,
-                t.high v,
+                of_side.high v,
                 high-same k (above k v cut) cube tidy.rising (omega arith),
-                high_above v cut below upper s gt k v,
+                high_above v cut below upper s is_above k v,
                 tidy.within v,
               ))
-          | inr n ↦
-              omega (arith, t.high u, high-other k (above k v cut) cube u n, high_above v cut below upper s gt k u)
+          | inr other ↦
+              omega (
+                arith,
+                of_side.high u,
+                high-other k (above k v cut) cube u other,
+                high_above v cut below upper s is_above k u,
+              )
         ];
       }
 
@@ -205,39 +232,41 @@ module _ {T : Type 0} (k : ℕ) (s : Scenario) where
   pub is_path : (node : TreeNode T) (cube : List Literal) → IsTidy k cube → HasCuts k node → (x : Path T) →
       Contains (paths_from k cube node) x → matches x.0 s ≡ true →
       IsPathOf cube node x
-  is_path (Leaf y) cube tidy cuts x c m = only (Contains-cases (cube, y) [] x c)
+  is_path (Leaf y) cube tidy cuts x listed matching = only (Contains-cases (cube, y) [] x listed)
     where
       -- a leaf has one path: the cube that leads to the leaf, with its value
       only : ((cube, y) ≡ x) ⊎ Contains [] x → IsPathOf cube (Leaf y) x
-      only (inl e) = subst (λ (z : Path T). IsPathOf cube (Leaf y) z) e (record {
-        came = subst (λ (z : Path T). matches z.0 s ≡ true) (sym e) m;
+      only (inl is_it) = subst (λ (z : Path T). IsPathOf cube (Leaf y) z) is_it (record {
+        came = subst (λ (z : Path T). matches z.0 s ≡ true) (sym is_it) matching;
         value = refl;
         low = λ v. omega arith;
         high = λ v. omega (arith, tidy.within v);
       })
       only (inr none) = absurd (Contains-nil x none)
-  is_path (Fork v cut below upper) cube tidy cuts x c m =
+  is_path (Fork v cut below upper) cube tidy cuts x listed matching =
       elim (Contains-append_cases (paths_from k (narrowed_by (up_to v cut) cube) below)
-      (paths_from k (narrowed_by (above k v cut) cube) upper) x c) [
-        | inl i ↦ path_below cube tidy v cut below upper cuts.1 x
-            (is_path below (narrowed_by (up_to v cut) cube) (tidy_below k cube tidy v cut cuts.1) cuts.2 x i m)
-        | inr i ↦ path_above cube tidy v cut below upper cuts.1 x
-            (is_path upper (narrowed_by (above k v cut) cube) (tidy_above k cube tidy v cut cuts.1) cuts.3 x i m)
+      (paths_from k (narrowed_by (above k v cut) cube) upper) x listed) [
+        | inl in_first ↦ path_below cube tidy v cut below upper cuts.1 x
+            (is_path below (narrowed_by (up_to v cut) cube) (tidy_below k cube tidy v cut cuts.1) cuts.2 x in_first
+            matching)
+        | inr in_second ↦ path_above cube tidy v cut below upper cuts.1 x
+            (is_path upper (narrowed_by (above k v cut) cube) (tidy_above k cube tidy v cut cuts.1) cuts.3 x in_second
+            matching)
       ]
 
   -- a scenario that the cube doesn't match is on no path
   none_from : (node : TreeNode T) (cube : List Literal) → IsTidy k cube → HasCuts k node → matches cube s ≡ false →
       length (filter (is_on s) (paths_from k cube node)) ≡ 0
   none_from node cube tidy cuts off = ap length
-      (filter_none (is_on s) (paths_from k cube node) (λ x c. false_from_ne_true (matches x.0 s)
-      (λ m. both_ways (matches cube s) off (is_path node cube tidy cuts x c m).came)))
+      (filter_none (is_on s) (paths_from k cube node) (λ x listed. false_from_ne_true (matches x.0 s)
+      (λ matching. both_ways (matches cube s) off (is_path node cube tidy cuts x listed matching).came)))
 
   -- a scenario that the cube matches is on exactly one path
   pub one_from : HasAtMostFaults k s → (node : TreeNode T) (cube : List Literal) → IsTidy k cube → HasCuts k node →
       matches cube s ≡ true →
       length (filter (is_on s) (paths_from k cube node)) ≡ 1
-  -- By induction on the tree. A leaf has one path, which the scenario is on. At a fork the scenario goes to one side: it is on one
-  -- path of that side by induction, and on none of the other, whose narrowed cube it doesn't match.
+  -- By induction on the tree. A leaf has one path, which the scenario is on. At a fork the scenario goes to one side:
+  -- it is on one path of that side by induction, and on none of the other, whose narrowed cube it doesn't match.
   one_from few (Leaf y) cube tidy cuts on = ap length (cond-true (matches cube s) ((cube, y) ∷ []) [] on)
   one_from few (Fork v cut below upper) cube tidy cuts on =
       ap length (filter-append (is_on s) (paths_from k (narrowed_by (up_to v cut) cube) below)
@@ -245,28 +274,31 @@ module _ {T : Type 0} (k : ℕ) (s : Scenario) where
       ∙ length-append (filter (is_on s) (paths_from k (narrowed_by (up_to v cut) cube) below))
       (filter (is_on s) (paths_from k (narrowed_by (above k v cut) cube) upper))
       ∙ elim (cases_lt cut (number_of s v)) [
-        | inr le ↦ ap₂ ◌+◌
+        | inr is_below ↦ ap₂ ◌+◌
             (one_from few below (narrowed_by (up_to v cut) cube) (tidy_below k cube tidy v cut cuts.1) cuts.2
-            (matches-narrowed s (up_to v cut) cube ∙ and_from _ _ (holds-from s (up_to v cut) (omega arith) le) on))
+            (matches-narrowed s (up_to v cut) cube
+            ∙ and_from _ _ (holds-from s (up_to v cut) (omega arith) is_below) on))
             (none_from upper (narrowed_by (above k v cut) cube) (tidy_above k cube tidy v cut cuts.1) cuts.3
-            (false_from_ne_true _ (λ m. let l = holds-low s (above k v cut) (and_parts (holds s (above k v cut))
-            (matches cube s) (sym (matches-narrowed s (above k v cut) cube) ∙ m)).0 in
-            absurd (omega (arith, l, le)))))
-        | inl gt ↦ ap₂ ◌+◌
+            (false_from_ne_true _ (λ matching. let its_low = holds-low s (above k v cut)
+            (and_parts (holds s (above k v cut))
+            (matches cube s) (sym (matches-narrowed s (above k v cut) cube) ∙ matching)).0 in
+            absurd (omega (arith, its_low, is_below)))))
+        | inl is_above ↦ ap₂ ◌+◌
             (none_from below (narrowed_by (up_to v cut) cube) (tidy_below k cube tidy v cut cuts.1) cuts.2
-            (false_from_ne_true _ (λ m. let l = holds-high s (up_to v cut) (and_parts (holds s (up_to v cut))
-            (matches cube s) (sym (matches-narrowed s (up_to v cut) cube) ∙ m)).0 in
-            absurd (omega (arith, l, gt)))))
+            (false_from_ne_true _ (λ matching. let its_high = holds-high s (up_to v cut)
+            (and_parts (holds s (up_to v cut))
+            (matches cube s) (sym (matches-narrowed s (up_to v cut) cube) ∙ matching)).0 in
+            absurd (omega (arith, its_high, is_above)))))
             (one_from few upper (narrowed_by (above k v cut) cube) (tidy_above k cube tidy v cut cuts.1) cuts.3
             (matches-narrowed s (above k v cut) cube
-            ∙ and_from _ _ (holds-from s (above k v cut) (omega (arith, gt)) (number_le_top k s few v)) on))
+            ∙ and_from _ _ (holds-from s (above k v cut) (omega (arith, is_above)) (number_le_top k s few v)) on))
       ]
 
 -- ---- of a whole tree
 
 -- the cube without literals is tidy
 no_literals : (k : ℕ) → IsTidy k []
-no_literals k = record { rising = λ i j d l m. absurd (omega (arith, m)); within = λ v. omega arith }
+no_literals k = record { rising = λ i j d i_below j_below. absurd (omega (arith, j_below)); within = λ v. omega arith }
 
 -- given: a good tree and a scenario
 module _ {T : Type 0} (k : ℕ) (node : TreeNode T) (good : IsGood k node) (s : Scenario) where
@@ -282,5 +314,5 @@ module _ {T : Type 0} (k : ℕ) (node : TreeNode T) (good : IsGood k node) (s : 
 
   -- each path that a scenario is on has the value and the ranges it finds
   pub found : (x : Path T) → IsOnPath (paths_of k node) s x → Found x
-  found x on = let t = is_path k s node [] (no_literals k) (good_cuts k node good) x on.stands on.matched in
-      record { value = t.value; low = λ v. omega (arith, t.low v); high = λ v. t.high v }
+  found x on = let its_path = is_path k s node [] (no_literals k) (good_cuts k node good) x on.stands on.matched in
+      record { value = its_path.value; low = λ v. omega (arith, its_path.low v); high = λ v. its_path.high v }

@@ -25,16 +25,16 @@ module _ {T : Type 0} (space : Space) (on off : TreeNode T) (old new : List (Tre
     pub picks_above : ((s : Scenario) → IsInSpace space s → cut < number_of s v) →
         AddsTree (IsPicked space y on off) old new →
         AddsTree (IsPicked space n on off) old new
-    -- p: the tree that was added, how its list stands in the new one, and what is known of it, which carries over
-    picks_above only p = (
-      p.0,
-      p.1,
+    -- `added`: the tree that was added, how its list stands in the new one, and what is known of it, which carries over
+    picks_above only added = (
+      added.0,
+      added.1,
       record {
         made = two_above_of (λ s b z. z ≡ value_at (picked b on off) s) (λ s b u. low_at (picked b on off) s u)
             (λ k s b u. high_at k (picked b on off) s u)
-            (IsInSpace space) v cut x y n whole p.0 p.2.made only;
-        fit = p.2.fit;
-        pass = λ test pass one two. p.2.pass test (passes_parts test v cut x y n whole pass).2 one two;
+            (IsInSpace space) v cut x y n whole added.0 added.2.made only;
+        fit = added.2.fit;
+        pass = λ test pass one two. added.2.pass test (passes_parts test v cut x y n whole pass).2 one two;
       },
     )
 
@@ -42,16 +42,16 @@ module _ {T : Type 0} (space : Space) (on off : TreeNode T) (old new : List (Tre
     pub picks_below : ((s : Scenario) → IsInSpace space s → number_of s v ≤ cut) →
         AddsTree (IsPicked space x on off) old new →
         AddsTree (IsPicked space n on off) old new
-    -- p: the tree that was added, how its list stands in the new one, and what is known of it, which carries over
-    picks_below only p = (
-      p.0,
-      p.1,
+    -- `added`: the tree that was added, how its list stands in the new one, and what is known of it, which carries over
+    picks_below only added = (
+      added.0,
+      added.1,
       record {
         made = two_below_of (λ s b z. z ≡ value_at (picked b on off) s) (λ s b u. low_at (picked b on off) s u)
             (λ k s b u. high_at k (picked b on off) s u)
-            (IsInSpace space) v cut x y n whole p.0 p.2.made only;
-        fit = p.2.fit;
-        pass = λ test pass one two. p.2.pass test (passes_parts test v cut x y n whole pass).1 one two;
+            (IsInSpace space) v cut x y n whole added.0 added.2.made only;
+        fit = added.2.fit;
+        pass = λ test pass one two. added.2.pass test (passes_parts test v cut x y n whole pass).1 one two;
       },
     )
 
@@ -67,8 +67,8 @@ module _ {T : Type 0} (space : Space) (on off : TreeNode T) (old new : List (Tre
       -- what is picked on both sides, joined by a fork, is picked by the whole chooser
       pub picks_fork : AddsTree (IsPicked shut x on off) old low → AddsTree (IsPicked upper y on off) low high →
           AddsTree (IsPicked space n on off) old new
-      -- fork: the tree that takes the place of both; its values are those of the sides (`made`), it fits the space, as the sides
-      -- fit their parts of it (`fit`), and its variables are v and those of the sides (`pass`)
+      -- fork: the tree that takes the place of both; its values are those of the sides (`made`), it fits the space, as
+      -- the sides fit their parts of it (`fit`), and its variables are v and those of the sides (`pass`)
       picks_fork one two =
           let fork =
           forks old one.0 two.0 (split_of start middle old low high one.0 two.0 one.1 two.1 first second) in (
@@ -91,32 +91,32 @@ module _ {T : Type 0} (space : Space) (on off : TreeNode T) (old new : List (Tre
     -- a chooser that is true picks the tree `on` in all scenarios
     pub picks_on : items ≡ flat (Leaf true) → AddsTree (IsRestricted space on) old new →
         AddsTree (IsPicked space n on off) old new
-    -- p: the tree that was added, how its list stands in the new one, and what is known of it, which carries over
-    picks_on leaf p = (
-      p.0,
-      p.1,
+    -- `added`: the tree that was added, how its list stands in the new one, and what is known of it, which carries over
+    picks_on leaf added = (
+      added.0,
+      added.1,
       record {
         made = two_leaf_of (λ s b z. z ≡ value_at (picked b on off) s) (λ s b u. low_at (picked b on off) s u)
             (λ k s b u. high_at k (picked b on off) s u) (IsInSpace space) true n
-            (flat-same n (Leaf true) (sym are ∙ leaf)) p.0 p.2.made;
-        fit = p.2.fit;
-        pass = λ test pass ons offs. p.2.pass test ons;
+            (flat-same n (Leaf true) (sym are ∙ leaf)) added.0 added.2.made;
+        fit = added.2.fit;
+        pass = λ test pass ons offs. added.2.pass test ons;
       },
     )
 
     -- a chooser that is false picks the tree `off` in all scenarios
     pub picks_off : items ≡ flat (Leaf false) → AddsTree (IsRestricted space off) old new →
         AddsTree (IsPicked space n on off) old new
-    -- p: the tree that was added, how its list stands in the new one, and what is known of it, which carries over
-    picks_off leaf p = (
-      p.0,
-      p.1,
+    -- `added`: the tree that was added, how its list stands in the new one, and what is known of it, which carries over
+    picks_off leaf added = (
+      added.0,
+      added.1,
       record {
         made = two_leaf_of (λ s b z. z ≡ value_at (picked b on off) s) (λ s b u. low_at (picked b on off) s u)
             (λ k s b u. high_at k (picked b on off) s u) (IsInSpace space) false n
-            (flat-same n (Leaf false) (sym are ∙ leaf)) p.0 p.2.made;
-        fit = p.2.fit;
-        pass = λ test pass ons offs. p.2.pass test offs;
+            (flat-same n (Leaf false) (sym are ∙ leaf)) added.0 added.2.made;
+        fit = added.2.fit;
+        pass = λ test pass ons offs. added.2.pass test offs;
       },
     )
 
@@ -126,13 +126,13 @@ pub picks_whole : {T : Type 0} (space : Space) (n : TreeNode Bool) (on off on_pa
     IsPartInSpace space on on_part
     → IsPartInSpace space off off_part →
     AddsTree (IsPicked space n on_part off_part) old new → AddsTree (IsPicked space n on off) old new
--- p: the tree that was added, how its list stands in the new one, and what is known of it, which carries over
-picks_whole space n on off on_part off_part old new ons offs p = (
-  p.0,
-  p.1,
+-- `added`: the tree that was added, how its list stands in the new one, and what is known of it, which carries over
+picks_whole space n on off on_part off_part old new ons offs added = (
+  added.0,
+  added.1,
   record {
-    made = pick_whole space n on off on_part off_part p.0 ons.same offs.same p.2.made;
-    fit = p.2.fit;
-    pass = λ test pass one two. p.2.pass test pass (ons.pass test one) (offs.pass test two);
+    made = pick_whole space n on off on_part off_part added.0 ons.same offs.same added.2.made;
+    fit = added.2.fit;
+    pass = λ test pass one two. added.2.pass test pass (ons.pass test one) (offs.pass test two);
   },
 )

@@ -55,24 +55,24 @@ module _ (k : ℕ) (space : Space) (all : (s : Scenario) → HasAtMostFaults k s
       IsGood k a → IsGood k b → IsGood k r →
       IsJoinOf answers space a b r →
       IsJoin answers (state k a) (state k b) (state k r)
-  -- by `found` each path has the value and the ranges that its scenario finds in the tree, of which `made` speaks; fx, fy and
-  -- fz are what is found for the paths x, y and z of a, b and r
+  -- x, y and z are the scenario's paths in a, b and r; by `found` each has the value and the ranges that the scenario
+  -- finds in its tree, of which `made` speaks
   join_paths answers a b r good_a good_b good_r made = record {
     faults = refl;
     value = λ s x y z few on_x on_y on_z.
-        let fx = found k a good_a s x on_x in
-        let fy = found k b good_b s y on_y in
-        let fz = found k r good_r s z on_z in
-        subst (λ v. answers x.1 y.1 v) (sym fz.value)
-        (subst (λ v. answers x.1 v (value_at r s)) (sym fy.value)
-        (subst (λ v. answers v (value_at b s) (value_at r s)) (sym fx.value) (made.value s (all s few))));
+        let found_x = found k a good_a s x on_x in
+        let found_y = found k b good_b s y on_y in
+        let found_z = found k r good_r s z on_z in
+        subst (λ v. answers x.1 y.1 v) (sym found_z.value)
+        (subst (λ v. answers x.1 v (value_at r s)) (sym found_y.value)
+        (subst (λ v. answers v (value_at b s) (value_at r s)) (sym found_x.value) (made.value s (all s few))));
     ranges = λ s x y z few on_x on_y on_z.
-        let fx = found k a good_a s x on_x in
-        let fy = found k b good_b s y on_y in
-        let fz = found k r good_r s z on_z in
+        let found_x = found k a good_a s x on_x in
+        let found_y = found k b good_b s y on_y in
+        let found_z = found k r good_r s z on_z in
         record {
-          low = λ v. omega (arith, fx.low v, fy.low v, fz.low v, made.lows s v (all s few));
-          high = λ v. omega (arith, fx.high v, fy.high v, fz.high v, made.highs k s v (all s few));
+          low = λ v. omega (arith, found_x.low v, found_y.low v, found_z.low v, made.lows s v (all s few));
+          high = λ v. omega (arith, found_x.high v, found_y.high v, found_z.high v, made.highs k s v (all s few));
         };
   }
 
@@ -81,32 +81,33 @@ module _ (k : ℕ) (space : Space) (all : (s : Scenario) → HasAtMostFaults k s
       IsGood k off → IsGood k r →
       IsPickOf space chooser on off r →
       IsPick (state k chooser) (state k on) (state k off) (state k r)
-  -- c, x and z are the scenario's paths in the chooser, in the tree that it picks and in r; each has what the scenario finds
+  -- c, x and z are the scenario's paths in the chooser, in the tree that it picks and in r; each has what the scenario
+  -- finds in its tree
   pick_paths {T} chooser on off r good_c good_on good_off good_r made = record {
     faults = refl;
     value = λ s c x z few on_c on_x on_z.
-        let fc = found k chooser good_c s c on_c in
-        let fz = found k r good_r s z on_z in
-        fz.value ∙ made.value s (all s few) ∙ ap (λ (b : Bool). value_at (picked b on off) s) (sym fc.value)
+        let found_c = found k chooser good_c s c on_c in
+        let found_z = found k r good_r s z on_z in
+        found_z.value ∙ made.value s (all s few) ∙ ap (λ (b : Bool). value_at (picked b on off) s) (sym found_c.value)
         ∙ sym (picked_value c.1 s x on_x);
     ranges = λ s c x z few on_c on_x on_z.
-        let fc = found k chooser good_c s c on_c in
-        let fz = found k r good_r s z on_z in
+        let found_c = found k chooser good_c s c on_c in
+        let found_z = found k r good_r s z on_z in
         record {
           low = λ v. omega (
             arith,
-            fc.low v,
-            fz.low v,
+            found_c.low v,
+            found_z.low v,
             made.lows s v (all s few),
-            ap (λ (b : Bool). low_at (picked b on off) s v) fc.value,
+            ap (λ (b : Bool). low_at (picked b on off) s v) found_c.value,
             picked_low c.1 s x on_x v,
           );
           high = λ v. omega (
             arith,
-            fc.high v,
-            fz.high v,
+            found_c.high v,
+            found_z.high v,
             made.highs k s v (all s few),
-            ap (λ (b : Bool). high_at k (picked b on off) s v) fc.value,
+            ap (λ (b : Bool). high_at k (picked b on off) s v) found_c.value,
             picked_high c.1 s x on_x v,
           );
         };
@@ -116,22 +117,22 @@ module _ (k : ℕ) (space : Space) (all : (s : Scenario) → HasAtMostFaults k s
       picked_value : (b : Bool) (s : Scenario) (x : Path T) →
           IsOnPath (if b then paths_of k on else paths_of k off) s x →
           x.1 ≡ value_at (picked b on off) s
-      picked_value true s x h = (found k on good_on s x h).value
-      picked_value false s x h = (found k off good_off s x h).value
+      picked_value true s x on_path = (found k on good_on s x on_path).value
+      picked_value false s x on_path = (found k off good_off s x on_path).value
 
       -- the path of the chosen tree has the lows of what is picked
       picked_low : (b : Bool) (s : Scenario) (x : Path T) → IsOnPath (if b then paths_of k on else paths_of k off) s x →
           (v : ℕ) →
           low_in x.0 v ≡ low_at (picked b on off) s v
-      picked_low true s x h v = (found k on good_on s x h).low v
-      picked_low false s x h v = (found k off good_off s x h).low v
+      picked_low true s x on_path v = (found k on good_on s x on_path).low v
+      picked_low false s x on_path v = (found k off good_off s x on_path).low v
 
       -- the path of the chosen tree has the highs of what is picked
       picked_high : (b : Bool) (s : Scenario) (x : Path T) →
           IsOnPath (if b then paths_of k on else paths_of k off) s x → (v : ℕ) →
           high_in k x.0 v ≡ min (top k v) (high_at k (picked b on off) s v)
-      picked_high true s x h v = (found k on good_on s x h).high v
-      picked_high false s x h v = (found k off good_off s x h).high v
+      picked_high true s x on_path v = (found k on good_on s x on_path).high v
+      picked_high false s x on_path v = (found k off good_off s x on_path).high v
 
 -- the value that a scenario comes to is that of its path
 pub value_path : {T : Type 0} (k : ℕ) (node : TreeNode T) (good : IsGood k node) (s : Scenario) →
@@ -146,20 +147,20 @@ pub map_paths : {T U : Type 0} (k : ℕ) (answers : T → U → Type 0) (a : Tre
 map_paths k answers a r good_a good_r made = record {
   faults = refl;
   value = λ s x z few on_x on_z.
-      let fx = found k a good_a s x on_x in
-      let fz = found k r good_r s z on_z in
-      subst (λ v. answers x.1 v) (sym fz.value)
-      (subst (λ v. answers v (value_at r s)) (sym fx.value) (made.value s tt));
+      let found_x = found k a good_a s x on_x in
+      let found_z = found k r good_r s z on_z in
+      subst (λ v. answers x.1 v) (sym found_z.value)
+      (subst (λ v. answers v (value_at r s)) (sym found_x.value) (made.value s tt));
   ranges = λ s x z few on_x on_z.
-      let fx = found k a good_a s x on_x in
-      let fz = found k r good_r s z on_z in
+      let found_x = found k a good_a s x on_x in
+      let found_z = found k r good_r s z on_z in
       record {
-        low = λ v. omega (arith, fx.low v, fz.low v, made.lows s v tt);
-        high = λ v. omega (arith, fx.high v, fz.high v, made.highs k s v tt);
+        low = λ v. omega (arith, found_x.low v, found_z.low v, made.lows s v tt);
+        high = λ v. omega (arith, found_x.high v, found_z.high v, made.highs k s v tt);
       };
 }
 
--- given: two trees, and what callers see of them
+-- given: two trees a and b, a tree r made of them, and what callers see of the two: `first` and `second`
 module _ {T U V : Type 0} (k l : ℕ) (a : TreeNode T) (b : TreeNode U) (r : TreeNode V) (first : TreeState T)
     (second : TreeState U) (is_first : state k a ≡ first)
     (is_second : state l b ≡ second) where
@@ -194,7 +195,7 @@ pub good_made : {T : Type 0} (k : ℕ) (space : Space) (r : TreeNode T) (items :
     IsGoodList k items
 good_made k space r items whole fit are = (r, are, (space, whole, fit))
 
--- given: a good tree, and the tree of a function's answers to its values
+-- given: a good tree n, which callers see as t, and the tree r of a function's answers to its values
 module _ {T U : Type 0} (answers : T → U → Type 0) (t : TreeState T) (n : TreeNode T) (good : IsGood t.faults n)
     (paths : t.paths ≡ paths_of t.faults n) (k : ℕ) (same : k ≡ t.faults) (r : TreeNode U)
     (mapped : IsMapped answers n r) where
@@ -216,8 +217,8 @@ module _ {T U : Type 0} (answers : T → U → Type 0) (t : TreeState T) (n : Tr
         (paths_of_forks test k r (mapped.pass test
         (forks_of_paths test t.faults n (subst (λ (ps : List (Path T)). DoPathsPass test ps) paths on))))
 
--- given: two good trees, and the tree that is made of them
--- `good_..`: the lists are good; `paths_..`: callers see their paths; `same`, `is`: the tree made is seen as r
+-- given: two good trees a and b, which callers see as `first` and `second`, and the tree r that is made of them
+-- `good_..`: they are good; `paths_..`: callers see their paths; `same`, `is`: callers see r as `made`
 module _ {T U V : Type 0} (first : TreeState T) (second : TreeState U) (a : TreeNode T) (b : TreeNode U)
     (good_a : IsGood first.faults a) (good_b : IsGood second.faults b)
     (paths_a : first.paths ≡ paths_of first.faults a) (paths_b : second.paths ≡ paths_of second.faults b) (k : ℕ)
@@ -258,14 +259,15 @@ module _ {T : Type 0} (chooser : TreeState Bool) (first second : TreeState T) (c
       IsPickOf space c a b r →
       IsPick chooser first second made
   pick_shown one two space whole all fit picked =
-      let m : ℕ = chooser.faults in
-      let equal_a : state m a ≡ first = ap (λ (l : ℕ). state l a) one ∙ state_seen first a paths_a in
-      let equal_b : state m b ≡ second = ap (λ (l : ℕ). state l b) two ∙ state_seen second b paths_b in
+      let most_faults : ℕ = chooser.faults in
+      let equal_a : state most_faults a ≡ first = ap (λ (l : ℕ). state l a) one ∙ state_seen first a paths_a in
+      let equal_b : state most_faults b ≡ second = ap (λ (l : ℕ). state l b) two ∙ state_seen second b paths_b in
       subst (IsPick chooser first second) (ap (λ (l : ℕ). state l r) (sym same) ∙ sym is)
-      (subst (λ (x : TreeState Bool). IsPick x first second (state m r)) (state_seen chooser c paths_c)
-      (subst (λ (x : TreeState T). IsPick (state m c) x second (state m r)) equal_a
-      (subst (λ (x : TreeState T). IsPick (state m c) (state m a) x (state m r)) equal_b
-      (pick_paths m space (λ s few. all s (subst (λ (l : ℕ). HasAtMostFaults l s) (sym same) few)) c a b r good_c
+      (subst (λ (x : TreeState Bool). IsPick x first second (state most_faults r)) (state_seen chooser c paths_c)
+      (subst (λ (x : TreeState T). IsPick (state most_faults c) x second (state most_faults r)) equal_a
+      (subst (λ (x : TreeState T). IsPick (state most_faults c) (state most_faults a) x (state most_faults r)) equal_b
+      (pick_paths most_faults space (λ s few. all s (subst (λ (l : ℕ). HasAtMostFaults l s) (sym same) few)) c a b r
+      good_c
       (subst (λ (l : ℕ). IsGood l a) (sym one) good_a) (subst (λ (l : ℕ). IsGood l b)
       (sym two) good_b)
       (space, subst (λ (l : ℕ). IsWhole l space) same whole, fit) picked))))

@@ -85,9 +85,9 @@ module _ {T : Type 0} (number : T → ℕ) where
   pub within_read : (space : Space) (a part : TreeNode T) → IsTreeWithin space a part →
       IsTreeWithin space (read_by number a) (read_by number part)
   within_read space a part same = record {
-    value = λ s d. value_read part s ∙ ap number (same.value s d) ∙ sym (value_read a s);
-    lows = λ s u d. omega (arith, low_read part s u, low_read a s u, same.lows s u d);
-    highs = λ k s u d. omega (arith, high_read k part s u, high_read k a s u, same.highs k s u d);
+    value = λ s inside. value_read part s ∙ ap number (same.value s inside) ∙ sym (value_read a s);
+    lows = λ s u inside. omega (arith, low_read part s u, low_read a s u, same.lows s u inside);
+    highs = λ k s u inside. omega (arith, high_read k part s u, high_read k a s u, same.highs k s u inside);
   }
 
   -- a tree of the greater of 0 and each leaf's number is the tree as it is read
@@ -95,9 +95,9 @@ module _ {T : Type 0} (number : T → ℕ) where
       IsFillOf (λ (x : ℕ) (y : T) (z : ℕ). z ≡ max x (number y)) space 0 a r →
       IsTreeWithin space (read_by number a) r
   filled_read space a r made = record {
-    value = λ s d. omega (arith, made.value s d, value_read a s);
-    lows = λ s u d. omega (arith, low_read a s u, made.lows s u d);
-    highs = λ k s u d. omega (arith, high_read k a s u, made.highs k s u d);
+    value = λ s inside. omega (arith, made.value s inside, value_read a s);
+    lows = λ s u inside. omega (arith, low_read a s u, made.lows s u inside);
+    highs = λ k s u inside. omega (arith, high_read k a s u, made.highs k s u inside);
   }
 
   -- if the forks of the tree that is read pass a test, so do those of the tree
@@ -118,14 +118,14 @@ module _ {T : Type 0} (number : T → ℕ) where
   pub kept_read : (space : Space) (a : TreeNode T) (old new : List (TreeItem ℕ)) →
       AddsTree (IsFilled (λ (x : ℕ) (y : T) (z : ℕ). z ≡ max x (number y)) space 0 a) old new →
       AddsTree (IsRestricted space (read_by number a)) old new
-  -- p: the tree that was added, how its list stands in the new one, and what is known of it, which carries over
-  kept_read space a old new p = (
-    p.0,
-    p.1,
+  -- `added`: the tree that was added, how its list stands in the new one, and what is known of it, which carries over
+  kept_read space a old new added = (
+    added.0,
+    added.1,
     record {
-      made = filled_read space a p.0 p.2.made;
-      fit = p.2.fit;
-      pass = λ test on. p.2.pass test (passes_read test a on);
+      made = filled_read space a added.0 added.2.made;
+      fit = added.2.fit;
+      pass = λ test on. added.2.pass test (passes_read test a on);
     },
   )
 
@@ -165,14 +165,15 @@ module _ (delay : ℕ) (t : TreeState (Option ℕ)) where
     later_map = record {
       faults = refl;
       value = λ s x z few on_x on_z.
-          let r = from_later s z on_z in
-          subst (λ (w : Path ℕ). w.1 ≡ time_later delay x.1) r.2 (ap (λ (y : Path (Option ℕ)). time_later delay y.1)
-          (sym (same_path t.faults t.paths each s few x r.0 on_x r.1)));
+          let source = from_later s z on_z in
+          subst (λ (w : Path ℕ). w.1 ≡ time_later delay x.1) source.2
+          (ap (λ (y : Path (Option ℕ)). time_later delay y.1)
+          (sym (same_path t.faults t.paths each s few x source.0 on_x source.1)));
       ranges = λ s x z few on_x on_z.
-          let r = from_later s z on_z in
-          subst (λ (w : Path ℕ). IsAsWide t.faults w.0 x.0) r.2
+          let source = from_later s z on_z in
+          subst (λ (w : Path ℕ). IsAsWide t.faults w.0 x.0) source.2
           (subst (λ (y : Path (Option ℕ)). IsAsWide t.faults y.0 x.0)
-          (same_path t.faults t.paths each s few x r.0 on_x r.1)
+          (same_path t.faults t.paths each s few x source.0 on_x source.1)
           (record { low = λ v. omega arith; high = λ v. omega arith }));
     }
       where
@@ -180,8 +181,11 @@ module _ (delay : ℕ) (t : TreeState (Option ℕ)) where
         from_later : (s : Scenario) (z : Path ℕ) → IsOnPath (later_by delay t).paths s z →
             (x : Path (Option ℕ)) × IsOnPath t.paths s x × (later_path delay x ≡ z)
         from_later s z on =
-            let r = Contains-map_parts (later_path delay) t.paths z on.stands in (
-              r.0,
-              record { stands = r.1; matched = subst (λ (w : Path ℕ). IsTrue (is_on s w)) (sym r.2) on.matched },
-              r.2,
+            let source = Contains-map_parts (later_path delay) t.paths z on.stands in (
+              source.0,
+              record {
+                stands = source.1;
+                matched = subst (λ (w : Path ℕ). IsTrue (is_on s w)) (sym source.2) on.matched;
+              },
+              source.2,
             )

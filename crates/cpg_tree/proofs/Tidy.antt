@@ -32,22 +32,23 @@ part_narrowed : (k : ℕ) (l : Literal) (cube : List Literal) → l.variable < 2
     Says k (narrowed_by l cube) l.variable → IsNarrowed k cube →
     IsNarrowed k (narrowed_by l cube)
 -- the literal's own variable is narrowed, as is given; the ranges of the others stay, so what holds of them stays too
-part_narrowed k l cube there says part x c = elim (cases_eq l.variable x.variable) [
-  | inl e ↦ (omega (arith, e, there), subst (Says k (narrowed_by l cube)) e says)
-  | inr n ↦ elim (variables_of_narrowed l cube x c) [
-    | inl e ↦ absurd (n e)
-    | inr r ↦
-        let old = part r.0 r.1 in (
-          omega (arith, r.2, old.0),
-          subst (Says k (narrowed_by l cube)) r.2 (still r.0.variable (λ e. n (e ∙ r.2)) old.1),
+part_narrowed k l cube there says part x listed = elim (cases_eq l.variable x.variable) [
+  | inl same ↦ (omega (arith, same, there), subst (Says k (narrowed_by l cube)) same says)
+  | inr other ↦ elim (variables_of_narrowed l cube x listed) [
+    | inl on_new ↦ absurd (other on_new)
+    | inr old_literal ↦
+        let old = part old_literal.0 old_literal.1 in (
+          omega (arith, old_literal.2, old.0),
+          subst (Says k (narrowed_by l cube)) old_literal.2
+              (still old_literal.0.variable (λ equal. other (equal ∙ old_literal.2)) old.1),
         )
   ]
 ]
   where
     -- what the cube says of another variable than the literal's, the narrowed cube says too
     still : (v : ℕ) → l.variable ≢ v → Says k cube v → Says k (narrowed_by l cube) v
-    still v n (inl low) = inl (omega (arith, low-other k l cube v n, low))
-    still v n (inr high) = inr (omega (arith, high-other k l cube v n, high))
+    still v other (inl low) = inl (omega (arith, low-other k l cube v other, low))
+    still v other (inr high) = inr (omega (arith, high-other k l cube v other, high))
 
 -- a cube that covers an open space and has no literal of a whole range
 pub record IsPathAround (k : ℕ) (cube : List Literal) : Type 0 where
@@ -62,17 +63,17 @@ pub record IsPathAround (k : ℕ) (cube : List Literal) : Type 0 where
 pub tidy_paths : {T : Type 0} (k : ℕ) (node : TreeNode T) (space : Space) (cube : List Literal) → IsOpenSpace k space →
     CoversSpace k space cube → IsNarrowed k cube → IsFit space node → (x : Path T) →
     Contains (paths_from k cube node) x → IsPathAround k x.0
--- by induction on the tree: the one path of a leaf has the cube itself; at a fork the part of the space on each side is open,
--- the narrowed cube covers it, and says something of the fork's variable
-tidy_paths {T} k (Leaf y) space cube is covers part fit x c = elim (Contains-cases (cube, y) [] x c) [
-  | inl e ↦
-      subst (λ (z : Path T). IsPathAround k z.0) e (record { space = space; is = is; covers = covers; part = part })
+-- by induction on the tree: the one path of a leaf has the cube itself; at a fork the part of the space on each side is
+-- open, the narrowed cube covers it, and says something of the fork's variable
+tidy_paths {T} k (Leaf y) space cube is covers part fit x listed = elim (Contains-cases (cube, y) [] x listed) [
+  | inl is_it ↦
+      subst (λ (z : Path T). IsPathAround k z.0) is_it (record { space = space; is = is; covers = covers; part = part })
   | inr none ↦ absurd (Contains-nil x none)
 ]
-tidy_paths k (Fork v cut below upper) space cube is covers part fit x c =
+tidy_paths k (Fork v cut below upper) space cube is covers part fit x listed =
     elim (Contains-append_cases (paths_from k (narrowed_by (up_to v cut) cube) below)
-    (paths_from k (narrowed_by (above k v cut) cube) upper) x c) [
-      | inl i ↦ tidy_paths k below (below_cut space v cut) (narrowed_by (up_to v cut) cube)
+    (paths_from k (narrowed_by (above k v cut) cube) upper) x listed) [
+      | inl in_first ↦ tidy_paths k below (below_cut space v cut) (narrowed_by (up_to v cut) cube)
           (opens_below k space is v cut fit.0 fit.1 fit.2)
           (covers_below k space is v cut fit.0 fit.1 fit.2 cube covers)
           (part_narrowed k (up_to v cut) cube fit.0
@@ -81,35 +82,35 @@ tidy_paths k (Fork v cut below upper) space cube is covers part fit x c =
             high-same k (up_to v cut) cube covers.rising (omega (arith, cut_under k space is v cut fit.0 fit.1 fit.2)),
             cut_under k space is v cut fit.0 fit.1 fit.2,
           ))) part)
-          fit.3 x i
-      | inr i ↦ tidy_paths k upper (above_cut space v cut) (narrowed_by (above k v cut) cube)
+          fit.3 x in_first
+      | inr in_second ↦ tidy_paths k upper (above_cut space v cut) (narrowed_by (above k v cut) cube)
           (opens_above k space is v cut fit.0 fit.1 fit.2)
           (covers_above k space is v cut fit.0 fit.1 fit.2 cube covers)
           (part_narrowed k (above k v cut) cube fit.0
-          (inl (omega (arith, low-same k (above k v cut) cube covers.rising))) part) fit.4 x i
+          (inl (omega (arith, low-same k (above k v cut) cube covers.rising))) part) fit.4 x in_second
     ]
 
 -- each path of a good tree has a space around it
 pub tidy_of : {T : Type 0} (k : ℕ) (node : TreeNode T) → IsGood k node → (x : Path T) → Contains (paths_of k node) x →
     IsPathAround k x.0
 tidy_of k node good = tidy_paths k node good.0 [] (whole_opens k good.0 good.1) (whole_covers k good.0 good.1)
-    (λ l c. absurd (Contains-nil l c)) good.2
+    (λ l in_none. absurd (Contains-nil l in_none)) good.2
 
 -- ---- the cube of a path has no whole literal, and none that goes past the whole range
 
 -- given: the cube of a path, with the space around it
 module _ (k : ℕ) (cube : List Literal) (tidy : IsPathAround k cube) where
   -- given: a literal l of the cube
-  module _ (l : Literal) (c : Contains cube l) where
+  module _ (l : Literal) (listed : Contains cube l) where
     -- a cube's range of a literal's variable is that of the literal
     pub range : (low_in cube l.variable ≡ l.low) × (high_in k cube l.variable ≡ l.high)
-    range = range_of_literal k cube l tidy.covers.rising c
+    range = range_of_literal k cube l tidy.covers.rising listed
 
     -- the literal hasn't the whole range of its variable
     pub not_whole : is_whole k l ≡ false
-    not_whole = false_from_ne_true (is_whole k l) (λ w.
-        let parts = and_parts (l.low == 0) (l.high == top k l.variable) w in
-        elim (tidy.part l c).1 [
+    not_whole = false_from_ne_true (is_whole k l) (λ whole.
+        let parts = and_parts (l.low == 0) (l.high == top k l.variable) whole in
+        elim (tidy.part l listed).1 [
           | inl low ↦ omega (arith, low, range.0, eqb-true l.low 0 parts.0)
           | inr high ↦ omega (arith, high, range.1, eqb-true l.high (top k l.variable) parts.1)
         ])

@@ -29,7 +29,8 @@ module _ (start middle v : ℕ) where
       AddsTree (IsCounted v
       (first + 1) k) low high → start ≡ length old → middle ≡ length low →
       ForksEnd start middle v first high new → AddsTree (IsCounted v first k) old new
-  -- the list ends in the leaf of the first count and the tree of the higher ones, so what is added is their fork at `first`
+  -- the list ends in the leaf of the first count and the tree of the higher ones, so what is added is their fork at
+  -- `first`
   adds_counts first k old low high new small less one two at_start at_middle forks =
       let fork = forks old (Leaf first) two.0
       (split_of start middle old low high (Leaf first) two.0 one two.1 at_start at_middle) in (

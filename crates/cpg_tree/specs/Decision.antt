@@ -10,15 +10,15 @@ abbrev pub value_at : {T : Type 0} → TreeNode T → Scenario → T
 value_at (Leaf x) s = x
 value_at (Fork v cut below above) s = if nat_le (number_of s v) cut then value_at below s else value_at above s
 
--- The least number of v with which a scenario still goes this way through the forks on v: one more than the greatest cut
--- that it passes above, or 0 if it passes above none.
+-- The least number of v with which a scenario still goes this way through the forks on v: one more than the greatest
+-- cut that it passes above, or 0 if it passes above none.
 abbrev pub low_at : {T : Type 0} → TreeNode T → Scenario → ℕ → ℕ
 low_at (Leaf x) s v = 0
 low_at (Fork u cut below above) s v = if nat_le (number_of s u) cut then low_at below s v else
     if u == v then max (cut + 1) (low_at above s v) else low_at above s v
 
--- The greatest number of v with which a scenario still goes this way through the forks on v: the least cut on v at which
--- it goes below, or, if there is none, the greatest number that v can have with at most k faults.
+-- The greatest number of v with which a scenario still goes this way through the forks on v: the least cut on v at
+-- which it goes below, or, if there is none, the greatest number that v can have with at most k faults.
 abbrev pub high_at : {T : Type 0} → ℕ → TreeNode T → Scenario → ℕ → ℕ
 high_at k (Leaf x) s v = top k v
 high_at k (Fork u cut below above) s v = if nat_le (number_of s u) cut

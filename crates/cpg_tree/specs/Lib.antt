@@ -10,4 +10,5 @@ pub mod Read
 pub mod Flat
 pub mod ReadBack
 pub mod Added
+pub mod OptionalTime
 pub mod GraphTrees

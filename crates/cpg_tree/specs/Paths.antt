@@ -13,7 +13,8 @@ up_to v cut = record { variable = v; low = 0; high = cut }
 abbrev pub above : ℕ → ℕ → ℕ → Literal
 above k v cut = record { variable = v; low = cut + 1; high = top k v }
 
--- the paths of a tree whose scenarios are all in a cube, from the lowest leaf up; each fork narrows the cube for its sides
+-- the paths of a tree whose scenarios are all in a cube, from the lowest leaf up; each fork narrows the cube for its
+-- sides
 abbrev pub paths_from : {T : Type 0} → ℕ → List Literal → TreeNode T → List (List Literal × T)
 paths_from k cube (Leaf x) = (cube, x) ∷ []
 paths_from k cube (Fork v cut lower upper) =

@@ -8,8 +8,8 @@ use Rattle.cpg_tree.specs.Decision.{IsGood}
 use Rattle.cpg_tree.specs.Flat.{flat}
 use Rattle.cpg_tree.specs.Paths.{paths_of}
 
--- the stack after an item: a value is put on it, and a fork takes its sides off, that above first
--- a fork without two sides on the stack leaves it as it is; the list of a tree has none
+-- The stack after an item. A value is put on it; a fork takes its sides off, that above first, and is put on in their
+-- place. A fork without two sides on the stack leaves the stack as it is; the list of a tree has no such fork.
 abbrev pub stacked : {T : Type 0} → TreeItem T → List (TreeNode T) → List (TreeNode T)
 stacked (Value x) stack = Leaf x ∷ stack
 stacked (Cut v cut n) [] = []

@@ -6,8 +6,8 @@ use Rattle.cpg_tree.specs.TreeNode.{TreeNode}
 use Rattle.cpg_tree.specs.Space.{Space, IsInSpace}
 use Rattle.cpg_tree.specs.Decision.{value_at, low_at, high_at}
 
--- r has the values of `below` if v is at most the cut and of `above` otherwise; its ranges are no narrower than those of a
--- fork
+-- r has the values of `below` if v is at most the cut and of `above` otherwise; its ranges are no narrower than those
+-- of a fork
 pub record IsForkOf {T : Type 0} (v cut : ℕ) (below above r : TreeNode T) : Type 0 where
   -- a scenario up to the cut has the value of the first tree, and one above the cut that of the second
   pub value_below : (s : Scenario) → number_of s v ≤ cut → value_at r s ≡ value_at below s
@@ -21,7 +21,8 @@ pub record IsForkOf {T : Type 0} (v cut : ℕ) (below above r : TreeNode T) : Ty
   pub high_here : (k : ℕ) (s : Scenario) → number_of s v ≤ cut → min cut (high_at k below s v) ≤ high_at k r s v
   pub high_above : (k : ℕ) (s : Scenario) (u : ℕ) → cut < number_of s v → high_at k above s u ≤ high_at k r s u
 
--- in each scenario of a domain the fact holds of r's value, and r's range of each variable contains that from low to high
+-- in each scenario of a domain the fact holds of r's value, and r's range of each variable contains that from low to
+-- high
 pub record IsResultTree {T : Type 0} (domain : Scenario → Type 0) (fact : Scenario → T → Type 0)
     (low : Scenario → ℕ → ℕ)
     (high : ℕ → Scenario → ℕ → ℕ) (r : TreeNode T) : Type 0 where
@@ -59,8 +60,8 @@ abbrev pub HoldsIfChosen : {V : Type 0} → Bool → Type 0 → V → V → Type
 HoldsIfChosen true fact none z = fact
 HoldsIfChosen false fact none z = z ≡ none
 
--- In the scenarios of a domain r's value is an answer to those of a and b if the chooser is true, and otherwise `none`. Its
--- ranges contain what those of the chooser and, if it is true, of a and b share.
+-- In the scenarios of a domain r's value is an answer to those of a and b if the chooser is true, and otherwise `none`.
+-- Its ranges contain what those of the chooser and, if it is true, of a and b share.
 abbrev pub IsJoinWhereOf : {T U V : Type 0} → (T → U → V → Type 0) → V → (Scenario → Type 0) → TreeNode Bool →
     TreeNode T → TreeNode U → TreeNode V → Type 0
 IsJoinWhereOf answers none domain chooser a b r =
@@ -73,8 +74,8 @@ IsJoinWhereOf answers none domain chooser a b r =
 abbrev pub picked : {T : Type 0} → Bool → TreeNode T → TreeNode T → TreeNode T
 picked b on off = if b then on else off
 
--- In the scenarios of a space r has the value of the tree that the chooser picks there. Its ranges contain what those of
--- the chooser and of the tree picked share.
+-- In the scenarios of a space r has the value of the tree that the chooser picks there. Its ranges contain what those
+-- of the chooser and of the tree picked share.
 abbrev pub IsPickOf : {T : Type 0} → Space → TreeNode Bool → TreeNode T → TreeNode T → TreeNode T → Type 0
 IsPickOf space chooser on off r =
     IsResultTree (IsInSpace space) (λ s z. z ≡ value_at (picked (value_at chooser s) on off) s)

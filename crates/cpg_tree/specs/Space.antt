@@ -1,4 +1,5 @@
--- Spaces: the scenarios that come to a place of a tree, as a range for each variable and the faults left beyond the lows.
+-- Spaces: the scenarios that come to a place of a tree, as a range for each variable and the faults left beyond the
+-- lows.
 -- Variables below 128 are fault counts, and those from 128 on are values of conditions.
 use Rattle.std.specs.Prelude.{ℕ, ◌+◌, ◌-◌, ◌≤◌, ◌<◌, ◌≡◌, Bool, ◌&&◌, ◌||◌, nat_le, nat_lt, if◌then◌else◌, get_or}
 use Rattle.std.specs.Prelude.{slice_set, sum_by, length}

@@ -105,7 +105,8 @@ pub record IsPick {T : Type 0} (chooser : TreeState Bool) (on off r : TreeState 
       IsOnPath (if c.1 then on.paths else off.paths) s x → IsOnPath r.paths s z →
       IsAsWideAsBoth chooser.faults z.0 c.0 x.0
 
--- in each scenario r has an answer to the values of a and b if the chooser is true there, and otherwise the value `none`
+-- in each scenario r has an answer to the values of a and b if the chooser is true there, and otherwise the value
+-- `none`
 pub record IsJoinWhere {T U V : Type 0} (answers : T → U → V → Type 0) (none : V) (chooser : TreeState Bool)
     (a : TreeState T) (b : TreeState U) (r : TreeState V) : Type 0 where
   pub faults : r.faults ≡ chooser.faults
@@ -123,7 +124,8 @@ pub record IsJoinWhere {T U V : Type 0} (answers : T → U → V → Type 0) (no
       IsOnPath chooser.paths s c → c.1 ≡ false → IsOnPath r.paths s z →
       IsAsWide chooser.faults z.0 c.0
 
--- in each scenario of at most k faults the value, read as a number, is that of v; no path has a literal on another variable
+-- in each scenario of at most k faults the value, read as a number, is that of v; no path has a literal on another
+-- variable
 pub record IsNumber {T : Type 0} (v k : ℕ) (number : T → ℕ) (t : TreeState T) : Type 0 where
   pub faults : t.faults ≡ k
   pub value : (s : Scenario) (x : Path T) → HasAtMostFaults k s → IsOnPath t.paths s x → number x.1 ≡ number_of s v

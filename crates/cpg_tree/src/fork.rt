@@ -167,7 +167,8 @@ fn sides_are_apart<T: Copy + Eq>(items: &[TreeItem<T>], middle: usize, variable:
 }
 
 /// Makes a fork of the two trees that a list ends in. If both are equal, one of them stays instead. If the second is a fork
-/// on the same variable whose side below is equal to the first, the second alone stays. The one error is `OutOfMemory`.
+/// on `variable` at a greater cut, whose side below is equal to the first, the second alone stays. The one error is
+/// `OutOfMemory`.
 #[inline(always)]
 pub fn fork<T: Copy + Eq>(
     out: &mut Vec<TreeItem<T>>,

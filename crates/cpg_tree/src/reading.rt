@@ -2,6 +2,8 @@
 ghost use Rattle.std.specs.Prelude.{ℕ, ◌≡◌};
 ghost use Rattle.cpg_tree.specs.Later.{time_later};
 
+use crate::optional_time::OptionalTime;
+
 /// A way to read the leaf of a tree as a number.
 pub trait Reading<T> {
     // the number that a leaf is read as
@@ -31,11 +33,11 @@ pub struct Later {
     pub delay: u64,
 }
 
-impl Reading<Option<u64>> for Later {
+impl Reading<OptionalTime> for Later {
     ghost number = { λ r x. time_later r.delay x };
 
-    fn number(&self, leaf: Option<u64>) -> u64 {
-        time_later(leaf, self.delay)
+    fn number(&self, leaf: OptionalTime) -> u64 {
+        time_later(leaf.get(), self.delay)
     }
 }
 

@@ -13,6 +13,7 @@ use crate::at::{at_items, leaf_count};
 use crate::item::TreeItem;
 use crate::join::join_items;
 use crate::map::map_items;
+use crate::optional_time::OptionalTime;
 use crate::reading::time_later;
 use crate::space::Space;
 use crate::top::{Top, top_of};
@@ -182,17 +183,17 @@ fn is_time_from(time: Option<u64>, least: u64) -> bool
 }
 
 /// Whether an item is a fork, or has a time that is at least `least`.
-fn is_item_from(item: TreeItem<Option<u64>>, least: u64) -> bool
+fn is_item_from(item: TreeItem<OptionalTime>, least: u64) -> bool
     ensures { OnTrue result (IsItemFrom least item) }
 {
     match item {
-        TreeItem::Value(time) => is_time_from(time, least),
+        TreeItem::Value(time) => is_time_from(time.get(), least),
         TreeItem::Cut { .. } => true,
     }
 }
 
 /// Whether each leaf of a tree has a time that is at least `least`.
-fn are_at_least(items: &[TreeItem<Option<u64>>], least: u64) -> bool
+fn are_at_least(items: &[TreeItem<OptionalTime>], least: u64) -> bool
     requires { IsFlat items.now }
     ensures { OnTrue result ((n : TreeNode (Option ℕ)) → items.now ≡ flat n → AreAtLeast least n) }
 {
@@ -211,7 +212,7 @@ fn time_or(time: Option<u64>, least: u64) -> u64
     time_later(time, 0).max(least)
 }
 
-impl Tree<Option<u64>> {
+impl Tree<OptionalTime> {
     /// Whether the tree has in each scenario a time that is at least `least`.
     fn is_at_least(&self, least: u64) -> bool
         ensures { OnTrue result (All (λ p. p.1 ≡ Some (max (time_later 0 p.1) least)) self.now.paths) }
@@ -221,18 +222,18 @@ impl Tree<Option<u64>> {
 
     /// Returns the tree that has in each scenario this tree's time (0 if it has none) or `least`, whichever is later. The one
     /// error is `OutOfMemory`.
-    fn raised(&self, least: u64) -> Result<Tree<Option<u64>>, OutOfMemory>
+    fn raised(&self, least: u64) -> Result<Tree<OptionalTime>, OutOfMemory>
         ensures is { IfOk result (λ t. IsMap (λ x z. z ≡ Some (max (time_later 0 x) least)) self.now t) }
         ensures each { IfOk result (λ t. HasOnePathEach t.faults t.paths) }
         ensures tidy { IfOk result (λ t. All (IsTidyPath t.faults) t.paths) }
         ensures pass { IfOk result (λ t. (test : ℕ → Bool) → DoPathsPass test self.now.paths → DoPathsPass test t.paths) }
     {
-        self.map(&|time: Option<u64>| Some(time_or(time, least)))
+        self.map(&|time: OptionalTime| OptionalTime::of(Some(time_or(time.get(), least))))
     }
 
     /// Returns the tree that has in each scenario this tree's time (0 if it has none) or `least`, whichever is later. If that
     /// changes no time, it is a copy of the tree. The one error is `OutOfMemory`.
-    pub fn no_earlier(&self, least: u64) -> Result<Tree<Option<u64>>, OutOfMemory>
+    pub fn no_earlier(&self, least: u64) -> Result<Tree<OptionalTime>, OutOfMemory>
         ensures is { IfOk result (λ t. IsMap (λ x z. z ≡ Some (max (time_later 0 x) least)) self.now t) }
         ensures each { IfOk result (λ t. HasOnePathEach t.faults t.paths) }
         ensures tidy { IfOk result (λ t. All (IsTidyPath t.faults) t.paths) }

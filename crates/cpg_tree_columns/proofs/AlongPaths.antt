@@ -30,8 +30,8 @@ use Rattle.cpg_tree_columns.proofs.TidyColumns.{of_column}
 
 -- a leaf has one path, whose cube is the one it is entered with
 only : {T : Type 0} (cube : List Literal) (y : T) (x : Path T) → Contains ((cube, y) ∷ []) x → x.0 ≡ cube
-only {T} cube y x c = elim (Contains-cases (cube, y) [] x c) [
-  | inl e ↦ ap (λ (z : Path T). z.0) (sym e)
+only {T} cube y x listed = elim (Contains-cases (cube, y) [] x listed) [
+  | inl is_it ↦ ap (λ (z : Path T). z.0) (sym is_it)
   | inr none ↦ absurd (Contains-nil x none)
 ]
 
@@ -43,27 +43,28 @@ rises : {T : Type 0} (k : ℕ) (node : TreeNode T) (cube : List Literal) → IsR
     low_in cube u ≤ low_in x.0 u
 -- By induction on the tree. A fork's sides are entered with a narrowed cube, and narrowing lowers no low: that of its
 -- own variable rises or stays, and the others stay.
-rises k (Leaf y) cube rising x c u = omega (arith, ap (λ z. low_in z u) (only cube y x c))
-rises k (Fork v cut below upper) cube rising x c u =
+rises k (Leaf y) cube rising x listed u = omega (arith, ap (λ z. low_in z u) (only cube y x listed))
+rises k (Fork v cut below upper) cube rising x listed u =
     elim (Contains-append_cases (paths_from k (narrowed_by (up_to v cut) cube) below)
-    (paths_from k (narrowed_by (above k v cut) cube) upper) x c) [
-      | inl i ↦ omega (
+    (paths_from k (narrowed_by (above k v cut) cube) upper) x listed) [
+      | inl in_first ↦ omega (
         arith,
         step (up_to v cut),
-        rises k below (narrowed_by (up_to v cut) cube) (rising-narrowed (up_to v cut) cube rising) x i u,
+        rises k below (narrowed_by (up_to v cut) cube) (rising-narrowed (up_to v cut) cube rising) x in_first u,
       )
-      | inr i ↦ omega (
+      | inr in_second ↦ omega (
         arith,
         step (above k v cut),
-        rises k upper (narrowed_by (above k v cut) cube) (rising-narrowed (above k v cut) cube rising) x i u,
+        rises k upper (narrowed_by (above k v cut) cube) (rising-narrowed (above k v cut) cube rising) x in_second u,
       )
     ]
   where
     -- narrowing by a literal lowers no low: on the literal's variable the low is the greater one, and others stay
     step : (l : Literal) → low_in cube u ≤ low_in (narrowed_by l cube) u
     step l = elim (cases_eq l.variable u) [
-      | inl e ↦ subst (λ w. low_in cube w ≤ low_in (narrowed_by l cube) w) e (omega (arith, low-same k l cube rising))
-      | inr n ↦ omega (arith, low-other k l cube u n)
+      | inl same ↦ subst (λ w. low_in cube w ≤ low_in (narrowed_by l cube) w) same
+          (omega (arith, low-same k l cube rising))
+      | inr other ↦ omega (arith, low-other k l cube u other)
     ]
 
 -- no path of a tree has a high above that of the cube with which the tree is entered
@@ -71,28 +72,29 @@ falls : {T : Type 0} (k : ℕ) (node : TreeNode T) (cube : List Literal) → IsR
     Contains (paths_from k cube node) x → (u : ℕ) →
     high_in k x.0 u ≤ high_in k cube u
 -- by induction on the tree, as `rises`; a cut is under its variable's greatest number
-falls k (Leaf y) cube rising cuts x c u = omega (arith, ap (λ z. high_in k z u) (only cube y x c))
-falls k (Fork v cut below upper) cube rising cuts x c u =
+falls k (Leaf y) cube rising cuts x listed u = omega (arith, ap (λ z. high_in k z u) (only cube y x listed))
+falls k (Fork v cut below upper) cube rising cuts x listed u =
     elim (Contains-append_cases (paths_from k (narrowed_by (up_to v cut) cube) below)
-    (paths_from k (narrowed_by (above k v cut) cube) upper) x c) [
-      | inl i ↦ omega (
+    (paths_from k (narrowed_by (above k v cut) cube) upper) x listed) [
+      | inl in_first ↦ omega (
         arith,
         step (up_to v cut) (omega (arith, cuts.1)),
-        falls k below (narrowed_by (up_to v cut) cube) (rising-narrowed (up_to v cut) cube rising) cuts.2 x i u,
+        falls k below (narrowed_by (up_to v cut) cube) (rising-narrowed (up_to v cut) cube rising) cuts.2 x in_first u,
       )
-      | inr i ↦ omega (
+      | inr in_second ↦ omega (
         arith,
         step (above k v cut) (omega arith),
-        falls k upper (narrowed_by (above k v cut) cube) (rising-narrowed (above k v cut) cube rising) cuts.3 x i u,
+        falls k upper (narrowed_by (above k v cut) cube) (rising-narrowed (above k v cut) cube rising) cuts.3 x
+            in_second u,
       )
     ]
   where
     -- narrowing by a literal raises no high: on the literal's variable the high is the lesser one, and others stay
     step : (l : Literal) → l.high ≤ top k l.variable → high_in k (narrowed_by l cube) u ≤ high_in k cube u
     step l within = elim (cases_eq l.variable u) [
-      | inl e ↦ subst (λ w. high_in k (narrowed_by l cube) w ≤ high_in k cube w) e
+      | inl same ↦ subst (λ w. high_in k (narrowed_by l cube) w ≤ high_in k cube w) same
           (omega (arith, high-same k l cube rising within))
-      | inr n ↦ omega (arith, high-other k l cube u n)
+      | inr other ↦ omega (arith, high-other k l cube u other)
     ]
 
 -- ---- the lows of variables that stand before all forks stay
@@ -107,16 +109,17 @@ module _ (places : List ℕ) where
       low_in x.0 u ≡ low_in cube u
   -- by induction on the tree: a fork narrows only its own variable, which is another one, as fewer places are left at
   -- it
-  stays k left (Leaf y) cube along x c u l = ap (λ z. low_in z u) (only cube y x c)
-  stays k left (Fork v cut below upper) cube along x c u l =
-      let other : v ≢ u = λ e. omega (arith, along.0, l, ap (λ w. get_or places w 0) e) in
+  stays k left (Leaf y) cube along x listed u before = ap (λ z. low_in z u) (only cube y x listed)
+  stays k left (Fork v cut below upper) cube along x listed u before =
+      let other : v ≢ u = λ equal. omega (arith, along.0, before, ap (λ w. get_or places w 0) equal) in
       elim (Contains-append_cases (paths_from k (narrowed_by (up_to v cut) cube) below)
-      (paths_from k (narrowed_by (above k v cut) cube) upper) x c) [
-        | inl i ↦
-            stays k (get_or places v 0) below (narrowed_by (up_to v cut) cube) along.2 x i u (omega (arith, along.0, l))
+      (paths_from k (narrowed_by (above k v cut) cube) upper) x listed) [
+        | inl in_first ↦
+            stays k (get_or places v 0) below (narrowed_by (up_to v cut) cube) along.2 x in_first u
+            (omega (arith, along.0, before))
             ∙ low-other k (up_to v cut) cube u other
-        | inr i ↦ stays k (get_or places v 0) upper (narrowed_by (above k v cut) cube) along.3 x i u
-            (omega (arith, along.0, l)) ∙ low-other k (above k v cut) cube u other
+        | inr in_second ↦ stays k (get_or places v 0) upper (narrowed_by (above k v cut) cube) along.3 x in_second u
+            (omega (arith, along.0, before)) ∙ low-other k (above k v cut) cube u other
       ]
 
 -- ---- so the first fork that parts two paths decides which stands first
@@ -150,21 +153,22 @@ module _ (g : Graph) (order places : List ℕ) (are : ArePlaces (variables_along
       let rising_high = rising-narrowed (above k v cut) cube rising in
       AllPairs-append (λ (x y : Path T). Stands x.0 y.0) xs ys
       (sorted_paths (get_or places v 0) below lower rising_low cuts.2 along.2
-      (λ x c. numbers x (Contains-append_left xs ys x c)))
+      (λ x listed. numbers x (Contains-append_left xs ys x listed)))
       (sorted_paths (get_or places v 0) upper higher rising_high cuts.3 along.3
-      (λ x c. numbers x (Contains-append_right xs ys x c)))
-      (λ x y c d. first_differ g order places are x.0 y.0 v along.1
-      (λ u l.
-      let other : v ≢ u = λ e. omega (arith, l, ap (λ w. get_or places w 0) e) in
-      stays places k (get_or places v 0) below lower along.2 x c u l ∙ low-other k (up_to v cut) cube u other
+      (λ x listed. numbers x (Contains-append_right xs ys x listed)))
+      (λ x y x_listed y_listed. first_differ g order places are x.0 y.0 v along.1
+      (λ u earlier.
+      let other : v ≢ u = λ equal. omega (arith, earlier, ap (λ w. get_or places w 0) equal) in
+      stays places k (get_or places v 0) below lower along.2 x x_listed u earlier
+      ∙ low-other k (up_to v cut) cube u other
       ∙ sym (low-other k (above k v cut) cube u other)
-      ∙ sym (stays places k (get_or places v 0) upper higher along.3 y d u l))
+      ∙ sym (stays places k (get_or places v 0) upper higher along.3 y y_listed u earlier))
       (omega (
         arith,
-        numbers x (Contains-append_left xs ys x c) v cuts.0,
-        falls k below lower rising_low cuts.2 x c v,
+        numbers x (Contains-append_left xs ys x x_listed) v cuts.0,
+        falls k below lower rising_low cuts.2 x x_listed v,
         high-same k (up_to v cut) cube rising (omega (arith, cuts.1)),
-        rises k upper higher rising_high y d v,
+        rises k upper higher rising_high y y_listed v,
         low-same k (above k v cut) cube rising,
       )))
 
@@ -174,8 +178,9 @@ module _ (g : Graph) (order places : List ℕ) (are : ArePlaces (variables_along
   columns_stand paths stand = AllPairs-flat_map_in (λ (x y : Path (Option ℕ)). Stands x.0 y.0)
       (λ (c d : Column). Stands c.cube d.cube) (λ (p : Path (Option ℕ)). column_of p.0 p.1) paths
       (λ x c. alone x.0 x.1)
-      (λ x y c d i j h m n. ap₂ (λ a b. is_below (lows_along g order (low_in b)) (lows_along g order (low_in a)))
-      (sym (of_column x.0 x.1 c m)) (sym (of_column y.0 y.1 d n)) ∙ h)
+      (λ x y c d i j xy_stand of_x of_y. ap₂
+      (λ a b. is_below (lows_along g order (low_in b)) (lows_along g order (low_in a)))
+      (sym (of_column x.0 x.1 c of_x)) (sym (of_column y.0 y.1 d of_y)) ∙ xy_stand)
       stand
     where
       -- the column of one path, if it has one, is alone, so it stands in order
@@ -191,6 +196,6 @@ module _ (g : Graph) (order places : List ℕ) (are : ArePlaces (variables_along
   pub sorted_columns : (node : TreeNode (Option ℕ)) → IsGood k node → AreForksAlong places 256 node →
       AreByLows (λ (c : Column). c.cube) g order (columns_of_paths (paths_of k node))
   sorted_columns node good along = columns_stand (paths_of k node)
-      (sorted_paths 256 node [] (λ i j d l m. absurd (omega (arith, m))) (good_cuts k node good) along
-      (λ x c u l. let covers = tidy_of k node good x c in
-      omega (arith, covers.covers.low u l, covers.is.opens u l, covers.covers.high u l)))
+      (sorted_paths 256 node [] (λ i j d i_below j_below. absurd (omega (arith, j_below))) (good_cuts k node good) along
+      (λ x listed u small. let covers = tidy_of k node good x listed in
+      omega (arith, covers.covers.low u small, covers.is.opens u small, covers.covers.high u small)))

@@ -32,28 +32,30 @@ range_low : (l : Literal) (cube : List Literal) → (range_left l cube).low ≡ 
 -- by induction on the cube: the first literal is on the variable, or the range is that of the others
 range_low l [] = omega arith
 range_low l (m ∷ ms) = elim (cases_eq l.variable m.variable) [
-  | inl e ↦ ap (λ (x : Literal). x.low)
-      (cond-true (l.variable == m.variable) (meet_literal l m) (range_left l ms) (eq-eqb _ _ e)) ∙
-      ap (max l.low) (sym (cond-true (m.variable == l.variable) m.low (low_in ms l.variable) (eq-eqb _ _ (sym e))))
-  | inr n ↦ ap (λ (x : Literal). x.low)
-      (cond-false (l.variable == m.variable) (meet_literal l m) (range_left l ms) (ne_eqb _ _ n)) ∙ range_low l ms
+  | inl same ↦ ap (λ (x : Literal). x.low)
+      (cond-true (l.variable == m.variable) (meet_literal l m) (range_left l ms) (eq-eqb _ _ same)) ∙
+      ap (max l.low) (sym (cond-true (m.variable == l.variable) m.low (low_in ms l.variable) (eq-eqb _ _ (sym same))))
+  | inr other ↦ ap (λ (x : Literal). x.low)
+      (cond-false (l.variable == m.variable) (meet_literal l m) (range_left l ms) (ne_eqb _ _ other)) ∙ range_low l ms
       ∙ ap (max l.low)
-      (sym (cond-false (m.variable == l.variable) m.low (low_in ms l.variable) (ne_eqb _ _ (λ e. n (sym e)))))
+      (sym (cond-false (m.variable == l.variable) m.low (low_in ms l.variable) (ne_eqb _ _ (λ is. other (sym is)))))
 ]
 
 -- the high of that range: the lesser of its own high and the cube's
 range_high : (k : ℕ) (l : Literal) (cube : List Literal) → l.high ≤ top k l.variable →
     (range_left l cube).high ≡ min l.high (high_in k cube l.variable)
 -- by induction on the cube: its first literal is on the variable of `l`, and met with it, or it changes nothing
-range_high k l [] h = omega (arith, h)
-range_high k l (m ∷ ms) h = elim (cases_eq l.variable m.variable) [
-  | inl e ↦ ap (λ (x : Literal). x.high)
-      (cond-true (l.variable == m.variable) (meet_literal l m) (range_left l ms) (eq-eqb _ _ e)) ∙
-      ap (min l.high) (sym (cond-true (m.variable == l.variable) m.high (high_in k ms l.variable) (eq-eqb _ _ (sym e))))
-  | inr n ↦ ap (λ (x : Literal). x.high)
-      (cond-false (l.variable == m.variable) (meet_literal l m) (range_left l ms) (ne_eqb _ _ n)) ∙ range_high k l ms h
+range_high k l [] within_top = omega (arith, within_top)
+range_high k l (m ∷ ms) within_top = elim (cases_eq l.variable m.variable) [
+  | inl same ↦ ap (λ (x : Literal). x.high)
+      (cond-true (l.variable == m.variable) (meet_literal l m) (range_left l ms) (eq-eqb _ _ same)) ∙
+      ap (min l.high) (sym (cond-true (m.variable == l.variable) m.high (high_in k ms l.variable)
+      (eq-eqb _ _ (sym same))))
+  | inr other ↦ ap (λ (x : Literal). x.high)
+      (cond-false (l.variable == m.variable) (meet_literal l m) (range_left l ms) (ne_eqb _ _ other))
+      ∙ range_high k l ms within_top
       ∙ ap (min l.high)
-      (sym (cond-false (m.variable == l.variable) m.high (high_in k ms l.variable) (ne_eqb _ _ (λ e. n (sym e)))))
+      (sym (cond-false (m.variable == l.variable) m.high (high_in k ms l.variable) (ne_eqb _ _ (λ is. other (sym is)))))
 ]
 
 -- ---- neither side's range is empty

@@ -27,9 +27,9 @@ use Rattle.cpg_tree_columns.proofs.CountedTimes.{both_columns}
 -- no literal of a cube is on a variable before its first
 above_first : (v : ℕ) (m : Literal) (ms : List Literal) → IsRising (m ∷ ms) → v < m.variable → (x : Literal) →
     Contains (m ∷ ms) x → x.variable ≢ v
-above_first v m ms r h x c e = elim (Contains-cases m ms x c) [
-  | inl s ↦ absurd (omega (arith, ap (λ (y : Literal). y.variable) s, h, e))
-  | inr d ↦ absurd (omega (arith, rising_first m x ms r d, h, e))
+above_first v m ms rising less x listed same = elim (Contains-cases m ms x listed) [
+  | inl is_first ↦ absurd (omega (arith, ap (λ (y : Literal). y.variable) is_first, less, same))
+  | inr is_later ↦ absurd (omega (arith, rising_first m x ms rising is_later, less, same))
 ]
 
 -- The sum of the lows of a narrowed cube: that of the cube, with the greater of the two lows in place of the
@@ -38,28 +38,28 @@ sum_narrowed : (l : Literal) (cube : List Literal) → IsRising cube →
     sum_by low_of (narrowed_by l cube) + low_in cube l.variable
     ≡ sum_by low_of cube + max l.low (low_in cube l.variable)
 -- By induction on the cube: the literal comes before the first one, is on its variable, or goes on to the others.
-sum_narrowed l [] r = omega (arith, sum_by-cons low_of l [])
-sum_narrowed l (m ∷ ms) r = elim (cases_order l.variable m.variable) [
-  | inl e ↦ omega (
+sum_narrowed l [] rising = omega (arith, sum_by-cons low_of l [])
+sum_narrowed l (m ∷ ms) rising = elim (cases_order l.variable m.variable) [
+  | inl same ↦ omega (
     arith,
-    ap (sum_by low_of) (narrowed-here l m ms e),
+    ap (sum_by low_of) (narrowed-here l m ms same),
     sum_by-cons low_of (meet_literal l m) ms,
     sum_by-cons low_of m ms,
-    low_in-here m ms l.variable (sym e),
+    low_in-here m ms l.variable (sym same),
   )
-  | inr (inl h) ↦ omega (
+  | inr (inl before) ↦ omega (
     arith,
-    ap (sum_by low_of) (narrowed-before l m ms h),
+    ap (sum_by low_of) (narrowed-before l m ms before),
     sum_by-cons low_of l (m ∷ ms),
-    low_in-none (m ∷ ms) l.variable (above_first l.variable m ms r h),
+    low_in-none (m ∷ ms) l.variable (above_first l.variable m ms rising before),
   )
-  | inr (inr h) ↦ omega (
+  | inr (inr after) ↦ omega (
     arith,
-    ap (sum_by low_of) (narrowed-after l m ms h),
+    ap (sum_by low_of) (narrowed-after l m ms after),
     sum_by-cons low_of m (narrowed_by l ms),
     sum_by-cons low_of m ms,
-    low_in-later m ms l.variable (λ s. omega (arith, h, s)),
-    sum_narrowed l ms (rising_rest m ms r),
+    low_in-later m ms l.variable (λ s. omega (arith, after, s)),
+    sum_narrowed l ms (rising_rest m ms rising),
   )
 ]
 
@@ -70,10 +70,10 @@ few_left : (left : ℕ) (us : List ℕ) (v : ℕ) → left_at left us v ≤ left
 -- by induction on the list
 few_left left [] v = omega arith
 few_left left (u ∷ us) v = elim (cases_eq u v) [
-  | inl e ↦ omega (arith, cond-true (u == v) left (left_at (left - 1) us v) (eq-eqb u v e))
-  | inr n ↦ omega (
+  | inl is_v ↦ omega (arith, cond-true (u == v) left (left_at (left - 1) us v) (eq-eqb u v is_v))
+  | inr other ↦ omega (
     arith,
-    cond-false (u == v) left (left_at (left - 1) us v) (ne_eqb u v n),
+    cond-false (u == v) left (left_at (left - 1) us v) (ne_eqb u v other),
     few_left (left - 1) us v,
   )
 ]
@@ -81,30 +81,30 @@ few_left left (u ∷ us) v = elim (cases_eq u v) [
 -- two variables at which equally many places are left, and not none, are the same
 left_apart : (left : ℕ) (us : List ℕ) (v w : ℕ) → left_at left us v ≡ left_at left us w → left_at left us w ≢ 0 → v ≡ w
 -- by induction on the order: each is the first variable or among the others, at which fewer places are left
-left_apart left [] v w e n = absurd (n refl)
-left_apart left (u ∷ us) v w e n = elim (cases_eq u v) [
-  | inl a ↦ elim (cases_eq u w) [
-    | inl b ↦ sym a ∙ b
-    | inr d ↦ absurd (n (omega (
+left_apart left [] v w as_many some_left = absurd (some_left refl)
+left_apart left (u ∷ us) v w as_many some_left = elim (cases_eq u v) [
+  | inl u_is_v ↦ elim (cases_eq u w) [
+    | inl u_is_w ↦ sym u_is_v ∙ u_is_w
+    | inr u_not_w ↦ absurd (some_left (omega (
       arith,
-      e,
-      cond-true (u == v) left (left_at (left - 1) us v) (eq-eqb u v a),
-      cond-false (u == w) left (left_at (left - 1) us w) (ne_eqb u w d),
+      as_many,
+      cond-true (u == v) left (left_at (left - 1) us v) (eq-eqb u v u_is_v),
+      cond-false (u == w) left (left_at (left - 1) us w) (ne_eqb u w u_not_w),
       few_left (left - 1) us w,
     )))
   ]
-  | inr c ↦ elim (cases_eq u w) [
-    | inl b ↦ absurd (n (omega (
+  | inr u_not_v ↦ elim (cases_eq u w) [
+    | inl u_is_w ↦ absurd (some_left (omega (
       arith,
-      e,
-      cond-false (u == v) left (left_at (left - 1) us v) (ne_eqb u v c),
-      cond-true (u == w) left (left_at (left - 1) us w) (eq-eqb u w b),
+      as_many,
+      cond-false (u == v) left (left_at (left - 1) us v) (ne_eqb u v u_not_v),
+      cond-true (u == w) left (left_at (left - 1) us w) (eq-eqb u w u_is_w),
       few_left (left - 1) us v,
     )))
-    | inr d ↦
-        let of_v = cond-false (u == v) left (left_at (left - 1) us v) (ne_eqb u v c) in
-        let of_w = cond-false (u == w) left (left_at (left - 1) us w) (ne_eqb u w d) in
-        left_apart (left - 1) us v w (sym of_v ∙ e ∙ of_w) (λ z. n (of_w ∙ z))
+    | inr u_not_w ↦
+        let of_v = cond-false (u == v) left (left_at (left - 1) us v) (ne_eqb u v u_not_v) in
+        let of_w = cond-false (u == w) left (left_at (left - 1) us w) (ne_eqb u w u_not_w) in
+        left_apart (left - 1) us v w (sym of_v ∙ as_many ∙ of_w) (λ z. some_left (of_w ∙ z))
   ]
 ]
 
@@ -125,40 +125,42 @@ pub record IsKnownOf (places : List ℕ) (side : ForkSide) (cube : List Literal)
 
 -- where a tree is entered, what is known is right for the cube without literals
 pub known_first : (places : List ℕ) → IsKnownOf places first_side []
-known_first places = record { behind = λ v l. refl; here = λ v e. refl; all = refl }
+known_first places = record { behind = λ v earlier. refl; here = λ v at_first. refl; all = refl }
 
 -- given: how many places are left at each variable of an order
 module _ (variables places : List ℕ) (are : ArePlaces variables places) (k : ℕ) where
   -- two variables with as many places left are the same
   same_place : (v w : ℕ) → get_or places v 0 ≡ get_or places w 0 → get_or places w 0 ≢ 0 → v ≡ w
-  same_place v w e n = left_apart 256 variables v w (sym (are.left v) ∙ e ∙ are.left w) (λ z. n (are.left w ∙ z))
+  same_place v w as_many some_left =
+      left_apart 256 variables v w (sym (are.left v) ∙ as_many ∙ are.left w) (λ z. some_left (are.left w ∙ z))
 
   -- given: a fork at variable v that stands along the order, and a cube of which `side` is known
   module _ (v cut : ℕ) (side : ForkSide) (cube : List Literal) (rising : IsRising cube) (known : IsKnownOf places side cube)
-      (less : get_or places v 0 ≤ side.left) (some : get_or places v 0 ≢ 0) where
+      (at_most : get_or places v 0 ≤ side.left) (some : get_or places v 0 ≢ 0) where
     -- the low that is known of the fork's variable is that of the cube: it is the last fork's variable, or one behind
     -- it
     low_known : low_so_far side (get_or places v 0) ≡ low_in cube v
     low_known = elim (cases_eq (get_or places v 0) side.left) [
-      | inl e ↦ cond-true (get_or places v 0 == side.left) side.low 0 (eq-eqb (get_or places v 0) side.left e)
-          ∙ sym (known.here v e)
-      | inr n ↦ cond-false (get_or places v 0 == side.left) side.low 0 (ne_eqb (get_or places v 0) side.left n)
-          ∙ sym (known.behind v (omega (arith, less, n)))
+      | inl is_last ↦ cond-true (get_or places v 0 == side.left) side.low 0
+          (eq-eqb (get_or places v 0) side.left is_last)
+          ∙ sym (known.here v is_last)
+      | inr other ↦ cond-false (get_or places v 0 == side.left) side.low 0 (ne_eqb (get_or places v 0) side.left other)
+          ∙ sym (known.behind v (omega (arith, at_most, other)))
     ]
 
     -- a narrowed cube has nothing above 0 at variables behind the fork's
     behind_fork : (l : Literal) → l.variable ≡ v → (u : ℕ) → get_or places u 0 < get_or places v 0 →
         low_in (narrowed_by l cube) u ≡ 0
-    behind_fork l is u h =
-        low-other k l cube u (λ e. omega (arith, h, ap (λ w. get_or places w 0) (sym is ∙ e)))
-        ∙ known.behind u (omega (arith, h, less))
+    behind_fork l is u is_behind =
+        low-other k l cube u (λ equal. omega (arith, is_behind, ap (λ w. get_or places w 0) (sym is ∙ equal)))
+        ∙ known.behind u (omega (arith, is_behind, at_most))
 
     -- what is known below the fork is so of the cube narrowed to the numbers up to the cut
     known_below : IsKnownOf places (side_below side (get_or places v 0)) (narrowed_by (up_to v cut) cube)
     known_below = record {
       behind = behind_fork (up_to v cut) refl;
-      here = λ u e. subst (λ w. low_in (narrowed_by (up_to v cut) cube) w ≡ low_so_far side (get_or places v 0))
-          (sym (same_place u v e some)) (omega (arith, low_known, low-same k (up_to v cut) cube rising));
+      here = λ u as_many. subst (λ w. low_in (narrowed_by (up_to v cut) cube) w ≡ low_so_far side (get_or places v 0))
+          (sym (same_place u v as_many some)) (omega (arith, low_known, low-same k (up_to v cut) cube rising));
       all = known.all ∙ ap (λ s. s % 256) (omega (arith, sum_narrowed (up_to v cut) cube rising));
     }
 
@@ -166,9 +168,9 @@ module _ (variables places : List ℕ) (are : ArePlaces variables places) (k : �
     known_above : IsKnownOf places (side_above side (get_or places v 0) cut) (narrowed_by (above k v cut) cube)
     known_above = record {
       behind = behind_fork (above k v cut) refl;
-      here = λ u e.
+      here = λ u as_many.
           subst (λ w. low_in (narrowed_by (above k v cut) cube) w ≡ low_above side (get_or places v 0) cut)
-          (sym (same_place u v e some)) (omega (arith, low_known, low-same k (above k v cut) cube rising));
+          (sym (same_place u v as_many some)) (omega (arith, low_known, low-same k (above k v cut) cube rising));
       all = omega (arith, known.all, low_known, sum_narrowed (above k v cut) cube rising);
     }
 

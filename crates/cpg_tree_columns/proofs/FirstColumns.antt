@@ -39,13 +39,13 @@ use Rattle.cpg_tree_columns.proofs.TidyColumns.{tidy_columns}
 
 -- what follows from a true test holds on true
 pub on_true : {P : Type 0} (b : Bool) → (b ≡ true → P) → OnTrue b P
-on_true true h = h refl
-on_true false h = tt
+on_true true follows = follows refl
+on_true false follows = tt
 
 -- what follows from a false test holds on false
 pub on_false : {P : Type 0} (b : Bool) → (b ≡ false → P) → OnFalse b P
-on_false true h = tt
-on_false false h = h refl
+on_false true follows = tt
+on_false false follows = follows refl
 
 -- given: the time that is searched for
 module _ (wanted : ℕ) where
@@ -67,20 +67,20 @@ module _ (wanted : ℕ) where
   pub first_left : (xs ys : List Column) (cube : List Literal) → first_with wanted xs ≡ Some cube →
       first_with wanted (xs ++ ys) ≡ Some cube
   -- by induction on the list
-  first_left [] ys cube e = absurd (none-some cube e)
-  first_left (x ∷ xs) ys cube e = elim (cases_eq x.time wanted) [
-    | inl same ↦ at_first x (xs ++ ys) same ∙ sym (at_first x xs same) ∙ e
-    | inr differs ↦ past_first x (xs ++ ys) differs ∙ first_left xs ys cube (sym (past_first x xs differs) ∙ e)
+  first_left [] ys cube is_first = absurd (none-some cube is_first)
+  first_left (x ∷ xs) ys cube is_first = elim (cases_eq x.time wanted) [
+    | inl same ↦ at_first x (xs ++ ys) same ∙ sym (at_first x xs same) ∙ is_first
+    | inr differs ↦ past_first x (xs ++ ys) differs ∙ first_left xs ys cube (sym (past_first x xs differs) ∙ is_first)
   ]
 
   -- if it has none, the first of both is that of the second list
   pub first_right : (xs ys : List Column) → first_with wanted xs ≡ None →
       first_with wanted (xs ++ ys) ≡ first_with wanted ys
   -- by induction on the list
-  first_right [] ys e = refl
-  first_right (x ∷ xs) ys e = elim (cases_eq x.time wanted) [
-    | inl same ↦ absurd (none-some x.cube (sym e ∙ at_first x xs same))
-    | inr differs ↦ past_first x (xs ++ ys) differs ∙ first_right xs ys (sym (past_first x xs differs) ∙ e)
+  first_right [] ys is_none = refl
+  first_right (x ∷ xs) ys is_none = elim (cases_eq x.time wanted) [
+    | inl same ↦ absurd (none-some x.cube (sym is_none ∙ at_first x xs same))
+    | inr differs ↦ past_first x (xs ++ ys) differs ∙ first_right xs ys (sym (past_first x xs differs) ∙ is_none)
   ]
 
   -- ---- on the way down
@@ -91,17 +91,17 @@ module _ (wanted : ℕ) where
     -- the columns of the side below are those on from the narrowed cube, if that has numbers up to the cut
     of_below : (low : List Literal) → with_literal (up_to v cut) cube ≡ Some low →
         option_map_or (λ c. columns_from k c below) (with_literal (up_to v cut) cube) [] ≡ columns_from k low below
-    of_below low e = ap (λ (o : Option (List Literal)). option_map_or (λ c. columns_from k c below) o []) e
+    of_below low is_low = ap (λ (o : Option (List Literal)). option_map_or (λ c. columns_from k c below) o []) is_low
 
     -- if the side below has a column with the time, its first one is that of the fork
     pub fork_below : (low found : List Literal) → with_literal (up_to v cut) cube ≡ Some low →
         first_with wanted (columns_from k low below) ≡ Some found →
         first_with wanted (columns_from k cube node) ≡ Some found
-    fork_below low found e first =
+    fork_below low found is_low first =
         ap (λ (n : TreeNode (Option ℕ)). first_with wanted (columns_from k cube n)) is
         ∙ first_left (option_map_or (λ c. columns_from k c below) (with_literal (up_to v cut) cube) [])
         (option_map_or (λ c. columns_from k c upper) (with_literal (above k v cut) cube) []) found
-        (ap (first_with wanted) (of_below low e) ∙ first)
+        (ap (first_with wanted) (of_below low is_low) ∙ first)
 
     -- If no column of the side below has the time, the first one of the fork is that of the side above. The cube is
     -- narrowed to the numbers above the cut by exchanging the literal.
@@ -113,13 +113,14 @@ module _ (wanted : ℕ) where
         first_with wanted (option_map_or (λ c. columns_from k c upper) high []) ≡ found →
         first_with wanted (columns_from k cube node) ≡ found
     -- the fork's columns are those of the side below, which have no such time, and then those of the side above
-    fork_above n most low after high found whole e undo none same exchanged first =
-        let i = above_again k v cut most n cube low after high whole undo same exchanged in
+    fork_above n most low after high found whole is_low undo none same exchanged first =
+        let same_above = above_again k v cut most n cube low after high whole undo same exchanged in
         ap (λ (n : TreeNode (Option ℕ)). first_with wanted (columns_from k cube n)) is
         ∙ first_right (option_map_or (λ c. columns_from k c below) (with_literal (up_to v cut) cube) [])
         (option_map_or (λ c. columns_from k c upper) (with_literal (above k v cut) cube) [])
-        (ap (first_with wanted) (of_below low e) ∙ none)
-        ∙ ap (λ (o : Option (List Literal)). first_with wanted (option_map_or (λ c. columns_from k c upper) o [])) i
+        (ap (first_with wanted) (of_below low is_low) ∙ none)
+        ∙ ap (λ (o : Option (List Literal)). first_with wanted (option_map_or (λ c. columns_from k c upper) o []))
+        same_above
         ∙ first
 
     -- if the cube has no numbers below the cut, the first column of the fork is that of the side above
@@ -127,10 +128,10 @@ module _ (wanted : ℕ) where
         with_literal (above k v cut) cube ≡ high →
         first_with wanted (option_map_or (λ c. columns_from k c upper) high []) ≡ found →
         first_with wanted (columns_from k cube node) ≡ found
-    fork_only_above high found e i first =
+    fork_only_above high found none_below is_high first =
         ap (λ (n : TreeNode (Option ℕ)). first_with wanted (columns_from k cube n)) is
         ∙ ap₂ (λ (a b : Option (List Literal)). first_with wanted (option_map_or (λ c. columns_from k c below) a []
-        ++ option_map_or (λ c. columns_from k c upper) b [])) e i ∙ first
+        ++ option_map_or (λ c. columns_from k c upper) b [])) none_below is_high ∙ first
 
   -- ---- at a leaf
 
@@ -147,11 +148,11 @@ module _ (wanted : ℕ) where
         -- a leaf without a time has no time; a leaf with a time has the time only if the two are equal
         by_value : (o : Option ℕ) → is_some (if_wanted wanted o) ≡ true →
             first_with wanted (column_of cube o) ≡ Some cube
-        by_value None h = cc
-        by_value (Some time) h = elim (cases_eq time wanted) [
+        by_value None is_it = cc
+        by_value (Some time) is_it = elim (cases_eq time wanted) [
           | inl same ↦ cond-true (time == wanted) (Some cube) None (eq-eqb _ _ same)
           | inr differs ↦ absurd (both_ways (is_some (if_wanted wanted (Some time)))
-              (ap is_some (cond-false (time == wanted) (Some time) None (ne_eqb _ _ differs))) h)
+              (ap is_some (cond-false (time == wanted) (Some time) None (ne_eqb _ _ differs))) is_it)
         ]
 
     -- a leaf without the time has none
@@ -160,9 +161,9 @@ module _ (wanted : ℕ) where
       where
         -- a leaf without a time has no column; a column with another time isn't found
         by_value : (o : Option ℕ) → is_some (if_wanted wanted o) ≡ false → first_with wanted (column_of cube o) ≡ None
-        by_value None h = refl
-        by_value (Some time) h = elim (cases_eq time wanted) [
-          | inl same ↦ absurd (both_ways (is_some (if_wanted wanted (Some time))) h
+        by_value None not_it = refl
+        by_value (Some time) not_it = elim (cases_eq time wanted) [
+          | inl same ↦ absurd (both_ways (is_some (if_wanted wanted (Some time))) not_it
               (ap is_some (cond-true (time == wanted) (Some time) None (eq-eqb _ _ same))))
           | inr differs ↦ cond-false (time == wanted) (Some cube) None (ne_eqb _ _ differs)
         ]
@@ -172,23 +173,24 @@ module _ (wanted : ℕ) where
   -- the cube that is found is that of a column with the time
   is_there : (xs : List Column) (cube : List Literal) → first_with wanted xs ≡ Some cube → Contains xs (With cube)
   -- by induction on the list
-  is_there [] cube e = absurd (none-some cube e)
-  is_there (x ∷ xs) cube e = elim (cases_eq x.time wanted) [
+  is_there [] cube is_first = absurd (none-some cube is_first)
+  is_there (x ∷ xs) cube is_first = elim (cases_eq x.time wanted) [
     | inl same ↦ subst (Contains (x ∷ xs))
         (ap₂ (λ (t : ℕ) (c : List Literal). let d : Column = record { time = t; cube = c } in d) same
-        (ap (λ (o : Option (List Literal)). unwrap_or o cube) (sym (at_first x xs same) ∙ e))) (Contains-first x xs)
-    | inr differs ↦ Contains-rest x xs (With cube) (is_there xs cube (sym (past_first x xs differs) ∙ e))
+        (ap (λ (o : Option (List Literal)). unwrap_or o cube) (sym (at_first x xs same) ∙ is_first)))
+        (Contains-first x xs)
+    | inr differs ↦ Contains-rest x xs (With cube) (is_there xs cube (sym (past_first x xs differs) ∙ is_first))
   ]
 
   -- if none is found, no column has the time
   nowhere : (xs : List Column) → first_with wanted xs ≡ None → (d : Column) → Contains xs d → d.time ≢ wanted
   -- by induction on the columns: the first one has another time, as it isn't found, and so have the others
-  nowhere [] e d c t = absurd (Contains-nil d c)
-  nowhere (x ∷ xs) e d c t = elim (cases_eq x.time wanted) [
-    | inl same ↦ none-some x.cube (sym e ∙ at_first x xs same)
-    | inr differs ↦ elim (Contains-cases x xs d c) [
-      | inl is ↦ differs (ap (λ (y : Column). y.time) is ∙ t)
-      | inr later ↦ nowhere xs (sym (past_first x xs differs) ∙ e) d later t
+  nowhere [] is_none d listed has_time = absurd (Contains-nil d listed)
+  nowhere (x ∷ xs) is_none d listed has_time = elim (cases_eq x.time wanted) [
+    | inl same ↦ none-some x.cube (sym is_none ∙ at_first x xs same)
+    | inr differs ↦ elim (Contains-cases x xs d listed) [
+      | inl is ↦ differs (ap (λ (y : Column). y.time) is ∙ has_time)
+      | inr later ↦ nowhere xs (sym (past_first x xs differs) ∙ is_none) d later has_time
     ]
   ]
 
@@ -204,17 +206,18 @@ module _ (wanted : ℕ) where
         d.time ≡ wanted →
         Stands (With cube) d
     -- by induction on the columns: the first one is the one found, and stands before all others, or it is passed over
-    none_before [] stand cube e d c t = absurd (Contains-nil d c)
-    none_before (x ∷ xs) stand cube e d c t = elim (cases_eq x.time wanted) [
+    none_before [] stand cube is_first d listed has_time = absurd (Contains-nil d listed)
+    none_before (x ∷ xs) stand cube is_first d listed has_time = elim (cases_eq x.time wanted) [
       | inl same ↦ subst (λ (b : List Literal). Stands (With b) d) (ap (λ (o : Option (List Literal)). unwrap_or o cube)
-          (sym (at_first x xs same) ∙ e)) (elim (Contains-cases x xs d c) [
+          (sym (at_first x xs same) ∙ is_first)) (elim (Contains-cases x xs d listed) [
             | inl is ↦ subst (Stands x) is (below_irreflexive (lows_along g order (low_in x.cube)))
             | inr later ↦ AllPairs-first Stands x xs stand d later
           ])
-      | inr differs ↦ elim (Contains-cases x xs d c) [
-        | inl is ↦ absurd (differs (ap (λ (y : Column). y.time) is ∙ t))
+      | inr differs ↦ elim (Contains-cases x xs d listed) [
+        | inl is ↦ absurd (differs (ap (λ (y : Column). y.time) is ∙ has_time))
         | inr later ↦
-            none_before xs (AllPairs-rest Stands x xs stand) cube (sym (past_first x xs differs) ∙ e) d later t
+            none_before xs (AllPairs-rest Stands x xs stand) cube (sym (past_first x xs differs) ∙ is_first) d later
+            has_time
       ]
     ]
 
@@ -225,29 +228,30 @@ module _ (g : Graph) (paths : List (Path (Option ℕ))) (wanted : ℕ) where
   -- if no column with the time is found, no path has it, since each path with a time has a column
   no_path : first_with wanted (columns_of_paths paths) ≡ None → (p : Path (Option ℕ)) → Contains paths p →
       p.1 ≢ Some wanted
-  no_path none p c e = nowhere wanted (columns_of_paths paths) none (record { time = wanted; cube = p.0 })
-      (column_there paths (columns_of_paths paths) (IsPermutation-refl (columns_of_paths paths)) p wanted c e) refl
+  no_path none p listed has_time = nowhere wanted (columns_of_paths paths) none (record { time = wanted; cube = p.0 })
+      (column_there paths (columns_of_paths paths) (IsPermutation-refl (columns_of_paths paths)) p wanted listed
+      has_time) refl
 
   -- if no column has the time, no path has it
   pub none_first : (o : Option Scenario) → o ≡ option_map (lows g) (first_with wanted (columns_of_paths paths)) →
       IfNone o (All (λ (p : Path (Option ℕ)). p.1 ≢ Some wanted) paths)
-  none_first o e = by_value (first_with wanted (columns_of_paths paths)) refl o e
+  none_first o is_result = by_value (first_with wanted (columns_of_paths paths)) refl o is_result
     where
       -- where a scenario is found nothing is asked; where none is, no column has the time
       by_value : (f : Option (List Literal)) → first_with wanted (columns_of_paths paths) ≡ f → (r : Option Scenario) →
           r ≡ option_map (lows g) f →
           IfNone r (All (λ (p : Path (Option ℕ)). p.1 ≢ Some wanted) paths)
-      by_value f k (Some s) e = tt
-      by_value None k None e = λ i d l. no_path k (get_or paths i d) (Contains-get_or paths i d l)
-      by_value (Some cube) k None e = absurd (none-some (lows g cube) e)
+      by_value f is_f (Some s) is_result = tt
+      by_value None is_f None is_result = λ i d below. no_path is_f (get_or paths i d) (Contains-get_or paths i d below)
+      by_value (Some cube) is_f None is_result = absurd (none-some (lows g cube) is_result)
 
   -- if the columns stand along an order, the first with the time has the least scenario of the time
   pub some_sorted : (order : List ℕ) → IsPermutation (numbers_below (process_count g)) order →
       AreByLows (λ (c : Column). c.cube) g order (columns_of_paths paths) →
       (o : Option Scenario) → IfSome o (IsLeastWhereSorted g paths wanted) →
       IfSome o (IsLeast g order (HasValueAt paths (Some wanted)))
-  some_sorted order all stand None h = tt
-  some_sorted order all stand (Some s) h = h order all stand
+  some_sorted order all stand None least = tt
+  some_sorted order all stand (Some s) least = least order all stand
 
 -- given: a good tree whose variables are a graph's, and the cube of the first column with a time
 module _ (g : Graph) (few : process_count g ≤ 128) (k : ℕ) (node : TreeNode (Option ℕ)) (good : IsGood k node)
@@ -265,7 +269,7 @@ module _ (g : Graph) (few : process_count g ≤ 128) (k : ℕ) (node : TreeNode 
 
   -- each column is tidy
   tidy_at : (d : Column) → Contains (columns_of_paths paths) d → IsTidyColumn g d
-  tidy_at d c = All-contains (IsTidyColumn g) (columns_of_paths paths) d tidy c
+  tidy_at d listed = All-contains (IsTidyColumn g) (columns_of_paths paths) d tidy listed
 
   -- the column that is found is one of the columns of the paths
   here : Contains (columns_of_paths paths) (record { time = wanted; cube = cube })
@@ -287,23 +291,24 @@ module _ (g : Graph) (few : process_count g ≤ 128) (k : ℕ) (node : TreeNode 
       let xs = columns_of_paths paths in
       let column : Column = record { time = wanted; cube = cube } in
       let least = lows-least g few cube (tidy_at column here).cube (tidy_at column here).met order in
-      let x = path_there paths xs (IsPermutation-refl xs) column here in
+      let its_path = path_there paths xs (IsPermutation-refl xs) column here in
       record {
         lawful = least.lawful;
         holds = (
-          x.0,
+          its_path.0,
           record {
-            stands = x.1;
-            matched = subst (λ (ls : List Literal). matches ls (lows g cube) ≡ true) (sym x.3) least.holds;
+            stands = its_path.1;
+            matched = subst (λ (ls : List Literal). matches ls (lows g cube) ≡ true) (sym its_path.3) least.holds;
           },
-          x.2,
+          its_path.2,
         );
-        least = λ u law h.
-            let d : Column = record { time = wanted; cube = h.0.0 } in
-            let there = column_there paths xs (IsPermutation-refl xs) h.0 wanted h.1.stands h.2 in
-            not_before_transitive g order (lows g cube) (lows g h.0.0) u
-            (ap₂ is_below (sym (lows_are_key g few h.0.0 (tidy_at d there).met order all))
+        least = λ u law other.
+            let d : Column = record { time = wanted; cube = other.0.0 } in
+            let there = column_there paths xs (IsPermutation-refl xs) other.0 wanted other.1.stands other.2 in
+            not_before_transitive g order (lows g cube) (lows g other.0.0) u
+            (ap₂ is_below (sym (lows_are_key g few other.0.0 (tidy_at d there).met order all))
             (sym (lows_are_key g few cube (tidy_at column here).met order all)) ∙
             none_before wanted g order xs stand cube first d there refl)
-            ((lows-least g few h.0.0 (tidy_at d there).cube (tidy_at d there).met order).least u law h.1.matched);
+            ((lows-least g few other.0.0 (tidy_at d there).cube (tidy_at d there).met order).least u law
+            other.1.matched);
       }

@@ -35,10 +35,10 @@ of_time cube time = Contains-first (record { time = time; cube = cube }) []
 -- the column of a path has the path's time and cube; a path without a time has no column
 from_time : (cube : List Literal) (x : Option ℕ) (c : Column) → Contains (column_of cube x) c →
     (x ≡ Some c.time) × (cube ≡ c.cube)
-from_time cube None c j = absurd (Contains-nil c j)
-from_time cube (Some t) c j = elim (Contains-cases (record { time = t; cube = cube }) [] c j) [
-  | inl e ↦ (ap (λ (d : Column). Some d.time) e, ap (λ (d : Column). d.cube) e)
-  | inr n ↦ absurd (Contains-nil c n)
+from_time cube None c listed = absurd (Contains-nil c listed)
+from_time cube (Some t) c listed = elim (Contains-cases (record { time = t; cube = cube }) [] c listed) [
+  | inl is_it ↦ (ap (λ (d : Column). Some d.time) is_it, ap (λ (d : Column). d.cube) is_it)
+  | inr in_none ↦ absurd (Contains-nil c in_none)
 ]
 
 -- given: the columns of paths, in any order
@@ -47,29 +47,32 @@ module _ (paths : List (Path (Option ℕ))) (columns : List Column)
   -- a path with a time is among the columns
   pub column_there : (x : Path (Option ℕ)) (time : ℕ) → Contains paths x → x.1 ≡ Some time →
       Contains columns (record { time = time; cube = x.0 })
-  column_there x time j e = Contains-permutation (columns_of_paths paths) columns (record { time = time; cube = x.0 }) p
-      (Contains-flat_map (λ (p : Path (Option ℕ)). column_of p.0 p.1) paths x (record { time = time; cube = x.0 }) j
-      (subst (λ o. Contains (column_of x.0 o) (record { time = time; cube = x.0 })) (sym e) (of_time x.0 time)))
+  column_there x time listed has_time =
+      Contains-permutation (columns_of_paths paths) columns (record { time = time; cube = x.0 }) p
+      (Contains-flat_map (λ (p : Path (Option ℕ)). column_of p.0 p.1) paths x (record { time = time; cube = x.0 })
+      listed
+      (subst (λ o. Contains (column_of x.0 o) (record { time = time; cube = x.0 })) (sym has_time) (of_time x.0 time)))
 
   -- each column is that of a path
   pub path_there : (c : Column) → Contains columns c →
       (x : Path (Option ℕ)) × Contains paths x × (x.1 ≡ Some c.time) × (x.0 ≡ c.cube)
-  path_there c j =
+  path_there c listed =
       let back = Contains-permutation columns (columns_of_paths paths) c
-      (IsPermutation-sym (columns_of_paths paths) columns p) j in
-      let f = Contains-flat_map_parts (λ (p : Path (Option ℕ)). column_of p.0 p.1) paths c back in
-      let is = from_time f.0.0 f.0.1 c f.2 in
-      (f.0, f.1, is.0, is.1)
+      (IsPermutation-sym (columns_of_paths paths) columns p) listed in
+      let from_path = Contains-flat_map_parts (λ (p : Path (Option ℕ)). column_of p.0 p.1) paths c back in
+      let is = from_time from_path.0.0 from_path.0.1 c from_path.2 in
+      (from_path.0, from_path.1, is.0, is.1)
 
   -- if there is no column, no path has a number: one with a number would have a column
   pub no_numbers : columns ≡ [] → (x : Path (Option ℕ)) → Contains paths x → x.1 ≡ None
-  no_numbers none x j = by_value x.1 refl
+  no_numbers none x listed = by_value x.1 refl
     where
       -- a path with a time would have a column
       by_value : (o : Option ℕ) → x.1 ≡ o → o ≡ None
-      by_value None e = refl
-      by_value (Some t) e = absurd (Contains-nil (record { time = t; cube = x.0 })
-          (subst (λ (cs : List Column). Contains cs (record { time = t; cube = x.0 })) none (column_there x t j e)))
+      by_value None is_o = refl
+      by_value (Some t) is_o = absurd (Contains-nil (record { time = t; cube = x.0 })
+          (subst (λ (cs : List Column). Contains cs (record { time = t; cube = x.0 })) none
+          (column_there x t listed is_o)))
 
   -- given: columns that are tidy, and c, the column at place `at`, whose lows come first along the order
   module _ (g : Graph) (few : process_count g ≤ 128) (order : List ℕ)
@@ -82,7 +85,7 @@ module _ (paths : List (Path (Option ℕ))) (columns : List Column)
 
     -- each column is tidy
     tidy_at : (d : Column) → Contains columns d → IsTidyColumn g d
-    tidy_at d j = All-contains (IsTidyColumn g) columns d tidy j
+    tidy_at d listed = All-contains (IsTidyColumn g) columns d tidy listed
 
     -- some scenario matches the first column
     pub column_met : is_met g.faults c.cube ≡ true
@@ -93,18 +96,18 @@ module _ (paths : List (Path (Option ℕ))) (columns : List Column)
         is_before g order u (lows g c.cube) ≡ false
     -- d's lows aren't before c's, by how c was chosen (`below`, said of scenarios by `order_of`), and u isn't before
     -- d's lows
-    not_earlier u law d k m =
+    not_earlier u law d listed matched =
         let below : is_below (lows_along g order (low_in d.cube)) (lows_along g order (low_in c.cube)) ≡ false =
         subst (λ (b : Column).
-        is_below (lows_along g order (low_in b.cube)) (lows_along g order (low_in c.cube)) ≡ false) k.2
-        (subst (λ (b : Column). is_below (lows_along g order (low_in (get_or columns k.0 d).cube))
+        is_below (lows_along g order (low_in b.cube)) (lows_along g order (low_in c.cube)) ≡ false) listed.2
+        (subst (λ (b : Column). is_below (lows_along g order (low_in (get_or columns listed.0 d).cube))
         (lows_along g order (low_in b.cube)) ≡ false) (get_or_default columns at d c first.there ∙ is)
-        (first.first k.0 d k.1)) in
+        (first.first listed.0 d listed.1)) in
         let order_of : is_before g order (lows g d.cube) (lows g c.cube) ≡ false =
-        ap₂ is_below (sym (lows_are_key g few d.cube (tidy_at d k).met order all))
+        ap₂ is_below (sym (lows_are_key g few d.cube (tidy_at d listed).met order all))
         (sym (lows_are_key g few c.cube (tidy_at c here).met order all)) ∙ below in
         not_before_transitive g order (lows g c.cube) (lows g d.cube) u order_of
-        ((least_of_column g few d (tidy_at d k) order).least u law m)
+        ((least_of_column g few d (tidy_at d listed) order).least u law matched)
 
     -- the lows of c are the least scenario with a number: a path with it is that of some column, which `not_earlier`
     -- compares
@@ -113,20 +116,21 @@ module _ (paths : List (Path (Option ℕ))) (columns : List Column)
       lawful = (least_of_column g few c (tidy_at c here) order).lawful;
       -- the path of c has the time of c as its number, and c matches its own lows
       holds =
-          let x = path_there c here in
+          let its_path = path_there c here in
           record {
             number = c.time;
             has = (
-              x.0,
+              its_path.0,
               record {
-                stands = x.1;
-                matched = subst (λ (ls : List Literal). matches ls (lows g c.cube) ≡ true) (sym x.3)
+                stands = its_path.1;
+                matched = subst (λ (ls : List Literal). matches ls (lows g c.cube) ≡ true) (sym its_path.3)
                     (least_of_column g few c (tidy_at c here) order).holds;
               },
-              x.2,
+              its_path.2,
             );
           };
       -- a path with a number is that of a column, whose scenarios aren't earlier
-      least = λ u law h. not_earlier u law (record { time = h.number; cube = h.has.0.0 })
-          (column_there h.has.0 h.number h.has.1.stands h.has.2) h.has.1.matched;
+      least = λ u law has_number. not_earlier u law (record { time = has_number.number; cube = has_number.has.0.0 })
+          (column_there has_number.has.0 has_number.number has_number.has.1.stands has_number.has.2)
+          has_number.has.1.matched;
     }

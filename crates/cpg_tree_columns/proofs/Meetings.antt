@@ -42,7 +42,7 @@ use Rattle.cpg_tree_columns.proofs.TidyColumns.{sum_by_fewer}
 
 -- ---- the scenario of the lows
 
--- if some scenario of the graph lies in the space, the space is open for k faults
+-- if some scenario of the graph lies in the space, the space is open for the graph's faults
 as_open : (g : Graph) (space : Space) → IsOpenSpaceOf g space → IsOpenSpace g.faults space
 as_open g space is = record { lows = is.lows; highs = is.highs; opens = is.opens; tops = is.tops; budget = is.budget }
 
@@ -62,47 +62,49 @@ module _ (g : Graph) (few : process_count g ≤ 128) (space : Space) (is : IsOpe
 
   -- its number at a variable of the graph is the low
   known_number : (v : ℕ) → v < 256 → IsVariable g v → number_of lowest v ≡ low v
-  known_number v l h = made_number g few low v h (omega (arith, is.opens v l, is.tops v l))
+  known_number v small of_graph = made_number g few low v of_graph (omega (arith, is.opens v small, is.tops v small))
 
   -- a number that is no variable is 0
   other_number : (v : ℕ) → (IsVariable g v → ⊥) → number_of lowest v ≡ 0
   -- a process behind the last one has no fault count, and a condition behind the last one has no value
   other_number v none = elim (cases_lt v 128) [
-    | inl l ↦ number_of-fault lowest v l ∙ get_or_past lowest.faults v 0 (elim (cases_lt v (process_count g)) [
-      | inl k ↦ absurd (none (inl k))
-      | inr k ↦ omega (arith, k, lawful.faults)
-    ])
-    | inr l ↦ cond-false (nat_lt v 128) (fault_of lowest v) (number_of_value (get_or lowest.values (v - 128) false))
-        (le-ltb v 128 l)
+    | inl is_count ↦ number_of-fault lowest v is_count
+        ∙ get_or_past lowest.faults v 0 (elim (cases_lt v (process_count g)) [
+          | inl inside ↦ absurd (none (inl inside))
+          | inr outside ↦ omega (arith, outside, lawful.faults)
+        ])
+    | inr is_value ↦ cond-false (nat_lt v 128) (fault_of lowest v)
+        (number_of_value (get_or lowest.values (v - 128) false))
+        (le-ltb v 128 is_value)
         ∙ ap number_of_value (get_or_past lowest.values (v - 128) false
         (elim (cases_lt v (128 + condition_count g)) [
-          | inl k ↦ absurd (none (inr (l, k)))
-          | inr k ↦ omega (arith, k, l, lawful.values)
+          | inl inside ↦ absurd (none (inr (is_value, inside)))
+          | inr outside ↦ omega (arith, outside, is_value, lawful.values)
         ]))
   ]
 
   -- the lowest scenario's number at any variable is the low
   number_is : (v : ℕ) → v < 256 → number_of lowest v ≡ low v
-  number_is v l = elim (variable_or_not g v) [
-    | inl h ↦ known_number v l h
+  number_is v small = elim (variable_or_not g v) [
+    | inl of_graph ↦ known_number v small of_graph
     | inr none ↦ other_number v none ∙ sym (is.known v none)
   ]
 
   -- a count at its low has no fault beyond it
   nothing_beyond : (f low number : ℕ) → number ≡ f → number ≡ low → f - low ≡ 0
-  nothing_beyond f low number a b = omega (arith, a, b)
+  nothing_beyond f low number is_f is_low = omega (arith, is_f, is_low)
 
   -- the scenario of the lows lies in the space, as it has no fault beyond the lows
   lies_lowest : IsInSpace space lowest
   lies_lowest = record {
-    low = λ v l. omega (arith, number_is v l);
-    high = λ v l. omega (arith, number_is v l, is.opens v l);
+    low = λ v small. omega (arith, number_is v small);
+    high = λ v small. omega (arith, number_is v small, is.opens v small);
     left = omega (
       arith,
       sum_by_zeros (beyond space lowest) (numbers_below 128)
-          (λ p c. let l = numbers-Contains 128 p c in
-          nothing_beyond (fault_of lowest p) (low p) (number_of lowest p) (number_of-fault lowest p l)
-          (number_is p (omega (arith, l)))),
+          (λ p listed. let small = numbers-Contains 128 p listed in
+          nothing_beyond (fault_of lowest p) (low p) (number_of lowest p) (number_of-fault lowest p small)
+          (number_is p (omega (arith, small)))),
     );
   }
 
@@ -128,9 +130,9 @@ module _ (space : Space) (lows : length space.low ≡ 256) (highs : length space
   lies_in_below under s lies = (
     record {
       low = lies.low;
-      high = λ u l. elim (cases_eq u v) [
-        | inl e ↦ subst (λ w. number_of s w ≤ get_or space.high w 0) (sym e) (omega (arith, at, under))
-        | inr n ↦ omega (arith, lies.high u l, set_other space.high v cut u n)
+      high = λ u small. elim (cases_eq u v) [
+        | inl is_v ↦ subst (λ w. number_of s w ≤ get_or space.high w 0) (sym is_v) (omega (arith, at, under))
+        | inr other ↦ omega (arith, lies.high u small, set_other space.high v cut u other)
       ];
       left = lies.left;
     },
@@ -151,29 +153,30 @@ module _ (space : Space) (lows : length space.low ≡ 256) (highs : length space
   -- that step, and otherwise it is the same
   lies_in_above under allows s lies = (
     record {
-      low = λ u l. elim (cases_eq u v) [
-        | inl e ↦ subst (λ w. get_or space.low w 0 ≤ number_of s w) (sym e) (omega (arith, at, under))
-        | inr n ↦ omega (arith, lies.low u l, set_other space.low v (cut + 1) u n)
+      low = λ u small. elim (cases_eq u v) [
+        | inl is_v ↦ subst (λ w. get_or space.low w 0 ≤ number_of s w) (sym is_v) (omega (arith, at, under))
+        | inr other ↦ omega (arith, lies.low u small, set_other space.low v (cut + 1) u other)
       ];
       high = lies.high;
       left = elim (cases_lt v 128) [
-        | inl l ↦
-            let changed = sum_changed (beyond space s) (beyond (above_cut space v cut) s) 128 v l
-            (λ u n. ap (λ m. fault_of s u - m) (sym (set_other space.low v (cut + 1) u n))) in
+        | inl is_count ↦
+            let changed = sum_changed (beyond space s) (beyond (above_cut space v cut) s) 128 v is_count
+            (λ u other. ap (λ m. fault_of s u - m) (sym (set_other space.low v (cut + 1) u other))) in
             let here =
             ap (λ m. fault_of s v - m) (set_same space.low v (cut + 1) v (omega (arith, lows, there)) refl) in
             more_left (sum_by (beyond space s) (numbers_below 128)) (sum_by (beyond (above_cut space v cut) s)
             (numbers_below 128)) (get_or space.low v 0) cut (fault_of s v) space.left
             (turned _ _ _ _ _ changed here)
             (subst (λ n. sum_by (beyond (above_cut space v cut) s) (numbers_below 128) ≤ space.left - n)
-            (cond-true (nat_lt v 128) (cut + 1 - get_or space.low v 0) 0 (lt-ltb v 128 l)) lies.left)
-            under (subst (λ n. cut < n) (number_of-fault s v l) at) (allows l)
-        | inr l ↦
+            (cond-true (nat_lt v 128) (cut + 1 - get_or space.low v 0) 0 (lt-ltb v 128 is_count)) lies.left)
+            under (subst (λ n. cut < n) (number_of-fault s v is_count) at) (allows is_count)
+        | inr is_value ↦
             let same = same_sum_by (beyond space s) (beyond (above_cut space v cut) s) (numbers_below 128)
-            (λ u c. ap (λ m. fault_of s u - m) (sym
-            (set_other space.low v (cut + 1) u (λ e. absurd (omega (arith, numbers-Contains 128 u c, e, l)))))) in
+            (λ u listed. ap (λ m. fault_of s u - m) (sym
+            (set_other space.low v (cut + 1) u
+            (λ is_v. absurd (omega (arith, numbers-Contains 128 u listed, is_v, is_value)))))) in
             as_much _ _ _ _ same lies.left
-            (cond-false (nat_lt v 128) (cut + 1 - get_or space.low v 0) 0 (le-ltb v 128 l))
+            (cond-false (nat_lt v 128) (cut + 1 - get_or space.low v 0) 0 (le-ltb v 128 is_value))
       ];
     },
     at,
@@ -185,11 +188,11 @@ module _ (space : Space) (lows : length space.low ≡ 256) (highs : length space
 
       -- two changes of a sum, of which one is known
       turned : (new old a b c : ℕ) → new + b ≡ old + a → b ≡ c → new + c ≡ old + a
-      turned new old a b c e f = omega (arith, e, f)
+      turned new old a b c same_sum b_is_c = omega (arith, same_sum, b_is_c)
 
       -- a sum that stays is still covered by what is left
       as_much : (new old left less : ℕ) → new ≡ old → old ≤ left - less → less ≡ 0 → new ≤ left
-      as_much new old left less e h z = omega (arith, e, h, z)
+      as_much new old left less same covered none = omega (arith, same, covered, none)
 
 -- ---- the sides of a fork
 
@@ -204,30 +207,37 @@ module _ (g : Graph) (space : Space) (v cut : ℕ) (there : v < 256) (known : Is
 
   -- the faults that are left cover the step above the cut
   allowed : v < 128 → cut + 1 - get_or space.low v 0 ≤ space.left
-  allowed l = elim (or_cases (nat_le 128 v) (nat_lt cut (get_or space.low v 0 + space.left))
+  allowed is_count = elim (or_cases (nat_le 128 v) (nat_lt cut (get_or space.low v 0 + space.left))
       (and_parts (nat_lt cut (get_or space.high v 0)) _ over).1) [
-        | inl h ↦ absurd (omega (arith, leb-true 128 v h, l))
-        | inr h ↦ omega (arith, ltb-true cut (get_or space.low v 0 + space.left) h)
+        | inl is_value ↦ absurd (omega (arith, leb-true 128 v is_value, is_count))
+        | inr room ↦ omega (arith, ltb-true cut (get_or space.low v 0 + space.left) room)
       ]
 
   -- some scenario of the graph lies in the part below the cut
   open_of_below : IsOpenSpaceOf g (below_cut space v cut)
   open_of_below =
-      let r = opens_below g.faults space (as_open g space is) v cut there under over in
-      record { lows = r.lows; highs = r.highs; opens = r.opens; tops = r.tops; budget = r.budget; known = is.known }
+      let opened = opens_below g.faults space (as_open g space is) v cut there under over in
+      record {
+        lows = opened.lows;
+        highs = opened.highs;
+        opens = opened.opens;
+        tops = opened.tops;
+        budget = opened.budget;
+        known = is.known;
+      }
 
   -- some scenario of the graph lies in the part above the cut
   open_of_above : IsOpenSpaceOf g (above_cut space v cut)
   -- `opens_above` gives all but `known`, and only v, a variable of the graph, has a new low
   open_of_above =
-      let r = opens_above g.faults space (as_open g space is) v cut there under over in
+      let opened = opens_above g.faults space (as_open g space is) v cut there under over in
       record {
-        lows = r.lows;
-        highs = r.highs;
-        opens = r.opens;
-        tops = r.tops;
-        budget = r.budget;
-        known = λ u none. set_other space.low v (cut + 1) u (λ e. none (subst (IsVariable g) (sym e) known))
+        lows = opened.lows;
+        highs = opened.highs;
+        opens = opened.opens;
+        tops = opened.tops;
+        budget = opened.budget;
+        known = λ u none. set_other space.low v (cut + 1) u (λ is_v. none (subst (IsVariable g) (sym is_v) known))
             ∙ is.known u none;
       }
 
@@ -252,10 +262,10 @@ module _ {T U V W : Type 0} (node : TreeNode T) (other : TreeNode U) (part : Tre
       IsMetIn (below_cut space v cut) part rest inner →
       IsMetIn space node other fact
   met_below under over follows met g forks is =
-      let p = parts g forks in
-      let r = met g p.1 (open_of_below g space v cut there p.0 is under over) in
-      let l = in_below g space v cut there p.0 is under over r.0 r.2 in
-      (r.0, r.1, l.0, follows r.0 l.1 r.3)
+      let for_parts = parts g forks in
+      let found = met g for_parts.1 (open_of_below g space v cut there for_parts.0 is under over) in
+      let in_whole = in_below g space v cut there for_parts.0 is under over found.0 found.2 in
+      (found.0, found.1, in_whole.0, follows found.0 in_whole.1 found.3)
 
   -- If some scenario above the cut has `inner`, and that gives `fact`, then some scenario of the space has `fact`.
   met_above : is_open_below space v cut ≡ true → is_open_above space v cut ≡ true →
@@ -263,17 +273,17 @@ module _ {T U V W : Type 0} (node : TreeNode T) (other : TreeNode U) (part : Tre
       IsMetIn (above_cut space v cut) part rest inner →
       IsMetIn space node other fact
   met_above under over follows met g forks is =
-      let p = parts g forks in
-      let r = met g p.1 (open_of_above g space v cut there p.0 is under over) in
-      let l = in_above g space v cut there p.0 is under over r.0 r.2 in
-      (r.0, r.1, l.0, follows r.0 l.1 r.3)
+      let for_parts = parts g forks in
+      let found = met g for_parts.1 (open_of_above g space v cut there for_parts.0 is under over) in
+      let in_whole = in_above g space v cut there for_parts.0 is under over found.0 found.2 in
+      (found.0, found.1, in_whole.0, follows found.0 in_whole.1 found.3)
 
   -- if some scenario of the space has `inner`, and that gives `fact` there, then some scenario of it has `fact`
   met_same : ((s : Scenario) → IsInSpace space s → inner s → fact s) → IsMetIn space part rest inner →
       IsMetIn space node other fact
   met_same follows met g forks is =
-      let r = met g (parts g forks).1 is in
-      (r.0, r.1, r.2, follows r.0 r.2 r.3)
+      let found = met g (parts g forks).1 is in
+      (found.0, found.1, found.2, follows found.0 found.2 found.3)
 
 -- ---- whether a tree is true in some scenario
 
@@ -288,8 +298,8 @@ IsNeverIn space node = (s : Scenario) → IsInSpace space s → value_at node s 
 -- a leaf that is true is true in some scenario of the space
 pub true_leaf : (space : Space) (node : TreeNode Bool) (b : Bool) → node ≡ Leaf b → b ≡ true → IsTrueIn space node
 true_leaf space node b is on g forks of_g =
-    let r = some_scenario g forks.few space of_g in
-    (r.0, r.1, r.2, ap (λ (n : TreeNode Bool). value_at n r.0) is ∙ on)
+    let lowest_one = some_scenario g forks.few space of_g in
+    (lowest_one.0, lowest_one.1, lowest_one.2, ap (λ (n : TreeNode Bool). value_at n lowest_one.0) is ∙ on)
 
 -- given: a space
 module _ (space : Space) where
@@ -311,23 +321,23 @@ module _ (v cut : ℕ) (there : v < 256) (low high node : TreeNode Bool) (is : n
     (space : Space) where
   -- up to the cut the tree has the values of its side below
   low_is : (s : Scenario) → number_of s v ≤ cut → value_at node s ≡ value_at low s
-  low_is s h = ap (λ (n : TreeNode Bool). value_at n s) is ∙ value_below v cut low high s h
+  low_is s at_most = ap (λ (n : TreeNode Bool). value_at n s) is ∙ value_below v cut low high s at_most
 
   -- above the cut the tree has the values of its side above
   high_is : (s : Scenario) → cut < number_of s v → value_at node s ≡ value_at high s
-  high_is s h = ap (λ (n : TreeNode Bool). value_at n s) is ∙ value_above v cut low high s h
+  high_is s past_cut = ap (λ (n : TreeNode Bool). value_at n s) is ∙ value_above v cut low high s past_cut
 
   -- if the whole is over a graph's scenarios, the fork is on a variable of it, and the side below is over them too
   low_parts : (g : Graph) → AreForksOf g node node → IsVariable g v × AreForksOf g low low
   low_parts g forks =
-      let r = passes_parts (is_variable g) v cut low high node is forks.first in
-      (variable_from g v r.0, record { few = forks.few; first = r.1; second = r.1 })
+      let parts = passes_parts (is_variable g) v cut low high node is forks.first in
+      (variable_from g v parts.0, record { few = forks.few; first = parts.1; second = parts.1 })
 
   -- if the whole is over a graph's scenarios, the fork is on a variable of it, and the side above is over them too
   high_parts : (g : Graph) → AreForksOf g node node → IsVariable g v × AreForksOf g high high
   high_parts g forks =
-      let r = passes_parts (is_variable g) v cut low high node is forks.first in
-      (variable_from g v r.0, record { few = forks.few; first = r.2; second = r.2 })
+      let parts = passes_parts (is_variable g) v cut low high node is forks.first in
+      (variable_from g v parts.0, record { few = forks.few; first = parts.2; second = parts.2 })
 
   -- if all scenarios go below and the side there is true in some scenario, so is the fork
   pub true_low : ((s : Scenario) → IsInSpace space s → number_of s v ≤ cut) → IsTrueIn space low → IsTrueIn space node
@@ -354,27 +364,27 @@ module _ (v cut : ℕ) (there : v < 256) (low high node : TreeNode Bool) (is : n
     -- if the side below is true in some scenario below the cut, so is the fork
     pub true_below : IsTrueIn (below_cut space v cut) low → IsTrueIn space node
     true_below = met_below node node low low space v cut there low_parts (λ s. value_at node s ≡ true)
-        (λ s. value_at low s ≡ true) under over (λ s h e. low_is s h ∙ e)
+        (λ s. value_at low s ≡ true) under over (λ s at_most e. low_is s at_most ∙ e)
 
     -- if the side above is true in some scenario above the cut, so is the fork
     pub true_above : IsTrueIn (above_cut space v cut) high → IsTrueIn space node
     true_above = met_above node node high high space v cut there high_parts (λ s. value_at node s ≡ true)
-        (λ s. value_at high s ≡ true) under over (λ s h e. high_is s h ∙ e)
+        (λ s. value_at high s ≡ true) under over (λ s past_cut e. high_is s past_cut ∙ e)
 
   -- if neither side is true in any scenario, nor is the fork: each scenario goes to one of them
   pub never_both : ((s : Scenario) → IsInSpace space s → number_of s v ≤ cut → value_at low s ≡ false) →
       ((s : Scenario) → IsInSpace space s → cut < number_of s v → value_at high s ≡ false)
       → IsNeverIn space node
   never_both none_low none_high s lies = elim (cases_lt cut (number_of s v)) [
-    | inl h ↦ high_is s h ∙ none_high s lies h
-    | inr h ↦ low_is s h ∙ none_low s lies h
+    | inl past_cut ↦ high_is s past_cut ∙ none_high s lies past_cut
+    | inr at_most ↦ low_is s at_most ∙ none_low s lies at_most
   ]
 
 -- ---- the greatest number of a tree where another one is true
 
 -- true isn't false
 not_both : true ≡ false → ⊥
-not_both e = cc
+not_both equal = cc
 
 -- if the other tree is true in no scenario, the best number so far stays
 pub most_never : (space : Space) (node : TreeNode (Option ℕ)) (wanted : TreeNode Bool) (best : Option ℕ) →
@@ -382,7 +392,7 @@ pub most_never : (space : Space) (node : TreeNode (Option ℕ)) (wanted : TreeNo
     IsMostInSpace space node wanted best best
 most_never space node wanted best none = record {
   above = λ s n lies comes. absurd (not_both (sym comes.1 ∙ none s lies));
-  from = λ n h. h;
+  from = λ n up_to. up_to;
   found = inl refl;
 }
 
@@ -393,7 +403,7 @@ pub most_least : (space : Space) (node : TreeNode (Option ℕ)) (wanted : TreeNo
     → IsMostInSpace space node wanted best best
 most_least space node wanted x best is none = record {
   above = λ s n lies comes. none n (sym (ap (λ (m : TreeNode (Option ℕ)). value_at m s) is) ∙ comes.0);
-  from = λ n h. h;
+  from = λ n up_to. up_to;
   found = inl refl;
 }
 
@@ -404,7 +414,7 @@ pub most_leaf : (space : Space) (node : TreeNode (Option ℕ)) (wanted : TreeNod
     IsMostInSpace space node wanted best x
 most_leaf space node wanted None None is some met = record {
   above = λ s n lies comes. absurd (none-some n (sym (ap (λ (m : TreeNode (Option ℕ)). value_at m s) is) ∙ comes.0));
-  from = λ n h. h;
+  from = λ n up_to. up_to;
   found = inl refl;
 }
 most_leaf space node wanted None (Some b) is some met = absurd (some b (omega arith))
@@ -412,36 +422,40 @@ most_leaf space node wanted (Some number) best is some met = record {
   above = λ s n lies comes. same_up number n (sym (ap (λ (m : TreeNode (Option ℕ)). value_at m s) is) ∙ comes.0);
   from = some;
   found = inr (λ g forks of_g.
-      let r = met g (record { few = forks.few; first = forks.second; second = forks.second }) of_g in
-      (r.0, r.1, r.2, (ap (λ (m : TreeNode (Option ℕ)). value_at m r.0) is, r.3)));
+      let found_one = met g (record { few = forks.few; first = forks.second; second = forks.second }) of_g in (
+        found_one.0,
+        found_one.1,
+        found_one.2,
+        (ap (λ (m : TreeNode (Option ℕ)). value_at m found_one.0) is, found_one.3),
+      ));
 }
   where
     -- a number is no greater than an equal one
     same_up : (m n : ℕ) → Some m ≡ Some n → n ≤ m
-    same_up m n e = omega (arith, ap (λ o. unwrap_or o 0) e)
+    same_up m n equal = omega (arith, ap (λ o. unwrap_or o 0) equal)
 
 -- given: a tree of numbers that is a fork, and the tree of truth values
 module _ (v cut : ℕ) (there : v < 256) (low high node : TreeNode (Option ℕ)) (is : node ≡ Fork v cut low high)
     (wanted : TreeNode Bool) (space : Space) where
   -- up to the cut the tree has the values of its side below
   low_value : (s : Scenario) → number_of s v ≤ cut → value_at node s ≡ value_at low s
-  low_value s h = ap (λ (n : TreeNode (Option ℕ)). value_at n s) is ∙ value_below v cut low high s h
+  low_value s at_most = ap (λ (n : TreeNode (Option ℕ)). value_at n s) is ∙ value_below v cut low high s at_most
 
   -- above the cut the tree has the values of its side above
   high_value : (s : Scenario) → cut < number_of s v → value_at node s ≡ value_at high s
-  high_value s h = ap (λ (n : TreeNode (Option ℕ)). value_at n s) is ∙ value_above v cut low high s h
+  high_value s past_cut = ap (λ (n : TreeNode (Option ℕ)). value_at n s) is ∙ value_above v cut low high s past_cut
 
   -- if both trees are over a graph's scenarios, the fork is on a variable of it, and the side below is over them too
   low_forks : (g : Graph) → AreForksOf g node wanted → IsVariable g v × AreForksOf g low wanted
   low_forks g forks =
-      let r = passes_parts (is_variable g) v cut low high node is forks.first in
-      (variable_from g v r.0, record { few = forks.few; first = r.1; second = forks.second })
+      let parts = passes_parts (is_variable g) v cut low high node is forks.first in
+      (variable_from g v parts.0, record { few = forks.few; first = parts.1; second = forks.second })
 
   -- if both trees are over a graph's scenarios, the fork is on a variable of it, and its side above is over them too
   high_forks : (g : Graph) → AreForksOf g node wanted → IsVariable g v × AreForksOf g high wanted
   high_forks g forks =
-      let r = passes_parts (is_variable g) v cut low high node is forks.first in
-      (variable_from g v r.0, record { few = forks.few; first = r.2; second = forks.second })
+      let parts = passes_parts (is_variable g) v cut low high node is forks.first in
+      (variable_from g v parts.0, record { few = forks.few; first = parts.2; second = forks.second })
 
   -- if all scenarios go below, the greatest number of the side there is that of the fork
   pub most_low : (best most : Option ℕ) → ((s : Scenario) → IsInSpace space s → number_of s v ≤ cut) →
@@ -450,14 +464,14 @@ module _ (v cut : ℕ) (there : v < 256) (low high node : TreeNode (Option ℕ))
   most_low best most only of_low = record {
     above = λ s n lies comes. of_low.above s n lies (sym (low_value s (only s lies)) ∙ comes.0, comes.1);
     from = of_low.from;
-    found = elim of_low.found [ inl e ↦ inl e | inr f ↦ inr (go most f) ];
+    found = elim of_low.found [ inl is_best ↦ inl is_best | inr found_low ↦ inr (go most found_low) ];
   }
     where
       -- a scenario of the space that comes to the number in the side below does so in the fork
       go : (o : Option ℕ) → IsFoundIn space low wanted o → IsFoundIn space node wanted o
-      go None f = absurd f
-      go (Some n) f = met_same node wanted low wanted space v cut there low_forks (ComesTo node wanted n)
-          (ComesTo low wanted n) (λ s lies c. (low_value s (only s lies) ∙ c.0, c.1)) f
+      go None found_low = absurd found_low
+      go (Some n) found_low = met_same node wanted low wanted space v cut there low_forks (ComesTo node wanted n)
+          (ComesTo low wanted n) (λ s lies comes. (low_value s (only s lies) ∙ comes.0, comes.1)) found_low
 
   -- if all scenarios go above, the greatest number of the side there is that of the fork
   pub most_high : (best most : Option ℕ) → ((s : Scenario) → IsInSpace space s → cut < number_of s v) →
@@ -466,14 +480,14 @@ module _ (v cut : ℕ) (there : v < 256) (low high node : TreeNode (Option ℕ))
   most_high best most only of_high = record {
     above = λ s n lies comes. of_high.above s n lies (sym (high_value s (only s lies)) ∙ comes.0, comes.1);
     from = of_high.from;
-    found = elim of_high.found [ inl e ↦ inl e | inr f ↦ inr (go most f) ];
+    found = elim of_high.found [ inl is_best ↦ inl is_best | inr found_high ↦ inr (go most found_high) ];
   }
     where
       -- a scenario of the space that comes to the number in the side above does so in the fork
       go : (o : Option ℕ) → IsFoundIn space high wanted o → IsFoundIn space node wanted o
-      go None f = absurd f
-      go (Some n) f = met_same node wanted high wanted space v cut there high_forks (ComesTo node wanted n)
-          (ComesTo high wanted n) (λ s lies c. (high_value s (only s lies) ∙ c.0, c.1)) f
+      go None found_high = absurd found_high
+      go (Some n) found_high = met_same node wanted high wanted space v cut there high_forks (ComesTo node wanted n)
+          (ComesTo high wanted n) (λ s lies comes. (high_value s (only s lies) ∙ comes.0, comes.1)) found_high
 
   -- if the space has numbers on both sides, the greatest of the fork is found by looking below with `best`, and above
   -- with what was found, `mid`
@@ -486,50 +500,52 @@ module _ (v cut : ℕ) (there : v < 256) (low high node : TreeNode (Option ℕ))
   -- or else `best`
   most_both best mid most under over in_low in_high of_low of_high = record {
     above = λ s n lies comes. elim (cases_lt cut (number_of s v)) [
-      | inl h ↦ of_high.above s n (in_high s lies h) (sym (high_value s h) ∙ comes.0, comes.1)
-      | inr h ↦ of_high.from n (of_low.above s n (in_low s lies h) (sym (low_value s h) ∙ comes.0, comes.1))
+      | inl past_cut ↦ of_high.above s n (in_high s lies past_cut) (sym (high_value s past_cut) ∙ comes.0, comes.1)
+      | inr at_most ↦ of_high.from n
+          (of_low.above s n (in_low s lies at_most) (sym (low_value s at_most) ∙ comes.0, comes.1))
     ];
-    from = λ n h. of_high.from n (of_low.from n h);
+    from = λ n up_to. of_high.from n (of_low.from n up_to);
     found = elim of_high.found [
-      | inr f ↦ inr (go_high most f)
+      | inr found_high ↦ inr (go_high most found_high)
       | inl same ↦ elim of_low.found [
-        | inl e ↦ inl (same ∙ e)
-        | inr f ↦ inr (subst (IsFoundIn space node wanted) (sym same) (go_low mid f))
+        | inl is_best ↦ inl (same ∙ is_best)
+        | inr found_low ↦ inr (subst (IsFoundIn space node wanted) (sym same) (go_low mid found_low))
       ]
     ];
   }
     where
       -- what is found below the cut is found in the whole
       go_low : (o : Option ℕ) → IsFoundIn (below_cut space v cut) low wanted o → IsFoundIn space node wanted o
-      go_low None f = absurd f
-      go_low (Some n) f = met_below node wanted low wanted space v cut there low_forks (ComesTo node wanted n)
-          (ComesTo low wanted n) under over (λ s h c. (low_value s h ∙ c.0, c.1)) f
+      go_low None found_low = absurd found_low
+      go_low (Some n) found_low = met_below node wanted low wanted space v cut there low_forks (ComesTo node wanted n)
+          (ComesTo low wanted n) under over (λ s at_most comes. (low_value s at_most ∙ comes.0, comes.1)) found_low
 
       -- what is found above the cut is found in the whole
       go_high : (o : Option ℕ) → IsFoundIn (above_cut space v cut) high wanted o → IsFoundIn space node wanted o
-      go_high None f = absurd f
-      go_high (Some n) f = met_above node wanted high wanted space v cut there high_forks (ComesTo node wanted n)
-          (ComesTo high wanted n) under over (λ s h c. (high_value s h ∙ c.0, c.1)) f
+      go_high None found_high = absurd found_high
+      go_high (Some n) found_high =
+          met_above node wanted high wanted space v cut there high_forks (ComesTo node wanted n)
+          (ComesTo high wanted n) under over (λ s past_cut comes. (high_value s past_cut ∙ comes.0, comes.1)) found_high
 
 -- ---- as what a call answers
 
 -- some scenario of the graph lies in the space of all scenarios of at most as many faults
 whole_of : (g : Graph) (space : Space) → IsWhole g.faults space → IsOpenSpaceOf g space
 whole_of g space whole =
-    let r = whole_opens g.faults space whole in
+    let opened = whole_opens g.faults space whole in
     record {
-      lows = r.lows;
-      highs = r.highs;
-      opens = r.opens;
-      tops = r.tops;
-      budget = r.budget;
+      lows = opened.lows;
+      highs = opened.highs;
+      opens = opened.opens;
+      tops = opened.tops;
+      budget = opened.budget;
       known = λ v none. low_zero v (cases_lt v 256);
     }
   where
     -- the low of a variable of the space is 0, and so is the default behind the last one
     low_zero : (v : ℕ) → (v < 256) ⊎ (256 ≤ v) → get_or space.low v 0 ≡ 0
-    low_zero v (inl l) = whole.lows v l
-    low_zero v (inr l) = get_or_past space.low v 0 (omega (arith, l, whole.long))
+    low_zero v (inl small) = whole.lows v small
+    low_zero v (inr past_last) = get_or_past space.low v 0 (omega (arith, past_last, whole.long))
 
 -- given: two good trees, and o, the greatest number of the one where the other is true, found in the space of all
 -- scenarios
@@ -547,32 +563,37 @@ module _ (k : ℕ) (node : TreeNode (Option ℕ)) (wanted : TreeNode Bool) (good
 
   -- if callers see that a scenario has the number where the chooser is true, it comes to both in the trees
   comes : (s : Scenario) (n : ℕ) → HasWhere tree chooser n s → ComesTo node wanted n s
-  comes s n w = (
-    (value_path k node good s).of_path w.has.0 w.has.1 ∙ w.has.2,
-    (value_path k wanted good_too s).of_path w.there.0 w.there.1 ∙ w.there.2,
+  comes s n has_where = (
+    (value_path k node good s).of_path has_where.has.0 has_where.has.1 ∙ has_where.has.2,
+    (value_path k wanted good_too s).of_path has_where.there.0 has_where.there.1 ∙ has_where.there.2,
   )
 
   -- if a scenario of at most k faults comes to both in the trees, callers see that
   seen : (s : Scenario) (n : ℕ) → HasAtMostFaults k s → ComesTo node wanted n s → HasWhere tree chooser n s
-  seen s n few c =
-      let x = the_path k (paths_of k node) (one_path k node good) s few in
-      let y = the_path k (paths_of k wanted) (one_path k wanted good_too) s few in
+  seen s n few comes_to =
+      let its_path = the_path k (paths_of k node) (one_path k node good) s few in
+      let chooser_path = the_path k (paths_of k wanted) (one_path k wanted good_too) s few in
       record {
-        has = (x.0, x.1, sym ((value_path k node good s).of_path x.0 x.1) ∙ c.0);
-        there = (y.0, y.1, sym ((value_path k wanted good_too s).of_path y.0 y.1) ∙ c.1);
+        has = (its_path.0, its_path.1, sym ((value_path k node good s).of_path its_path.0 its_path.1) ∙ comes_to.0);
+        there = (
+          chooser_path.0,
+          chooser_path.1,
+          sym ((value_path k wanted good_too s).of_path chooser_path.0 chooser_path.1) ∙ comes_to.1,
+        );
       }
 
   -- if none is found, no scenario has a number there
   pub no_number : o ≡ None → IsNowhere tree chooser
-  no_number e s n few w = subst (λ x. IsUpTo x n) e (most.above s n (all s few) (comes s n w))
+  no_number is_none s n few has_where =
+      subst (λ x. IsUpTo x n) is_none (most.above s n (all s few) (comes s n has_where))
 
   -- a number that is found is the greatest that a scenario has there
   pub a_number : (number : ℕ) → o ≡ Some number → IsMostWhere tree chooser number
-  a_number number e = record {
-    above = λ s n few w. subst (λ x. IsUpTo x n) e (most.above s n (all s few) (comes s n w));
+  a_number number is_number = record {
+    above = λ s n few has_where. subst (λ x. IsUpTo x n) is_number (most.above s n (all s few) (comes s n has_where));
     reached = λ g of. elim most.found [
-      | inl none ↦ absurd (none-some number (sym none ∙ e))
-      | inr f ↦ reach g of (subst (IsFoundIn space node wanted) e f)
+      | inl none ↦ absurd (none-some number (sym none ∙ is_number))
+      | inr found_in ↦ reach g of (subst (IsFoundIn space node wanted) is_number found_in)
     ];
   }
     where
@@ -581,14 +602,20 @@ module _ (k : ℕ) (node : TreeNode (Option ℕ)) (wanted : TreeNode Bool) (good
           IsReachedWhere g tree chooser number
       -- the space of all scenarios is open for each graph that both trees are of, so some scenario of it has what was
       -- found
-      reach g of f =
-          let r =
-          f g (record { few = of.few; first = forks_of_paths (is_variable g) k node of.known; second = forks_of_paths (is_variable g) k wanted of.known_too })
+      reach g of found_in =
+          let reached_in =
+          found_in g (record {
+            few = of.few;
+            first = forks_of_paths (is_variable g) k node of.known;
+            second = forks_of_paths (is_variable g) k wanted of.known_too;
+          })
           (whole_of g space (subst (λ n. IsWhole n space) of.faults whole)) in
           record {
-            scenario = r.0;
-            lawful = r.1;
-            has = seen r.0 number (subst (λ n. HasAtMostFaults n r.0) (sym of.faults) (scenario_few g r.0 r.1)) r.3;
+            scenario = reached_in.0;
+            lawful = reached_in.1;
+            has = seen reached_in.0 number
+                (subst (λ n. HasAtMostFaults n reached_in.0) (sym of.faults) (scenario_few g reached_in.0 reached_in.1))
+                reached_in.3;
           }
 
 -- given: two trees as callers see them, `first` and `second`, what they are inside, and o, the greatest number found
@@ -619,10 +646,10 @@ module _ (first : TreeState (Option ℕ)) (second : TreeState Bool) (node : Tree
       where
         -- if a number is found, nothing is asked
         by : (x : Option ℕ) → o ≡ x → IfNone x (IsNowhere first second)
-        by None e = subst (λ (t : TreeState (Option ℕ)). IsNowhere t second) is_first
+        by None is_o = subst (λ (t : TreeState (Option ℕ)). IsNowhere t second) is_first
             (subst (λ (u : TreeState Bool). IsNowhere (state first.faults node) u) is_there
-            (no_number first.faults node wanted good good_there space whole all o most e))
-        by (Some n) e = tt
+            (no_number first.faults node wanted good good_there space whole all o most is_o))
+        by (Some n) is_o = tt
 
     -- callers see in the trees the greatest number there, if one is found
     pub some_where : IfSome o (IsMostWhere first second)
@@ -630,7 +657,7 @@ module _ (first : TreeState (Option ℕ)) (second : TreeState Bool) (node : Tree
       where
         -- if no number is found, nothing is asked
         by : (x : Option ℕ) → o ≡ x → IfSome x (IsMostWhere first second)
-        by None e = tt
-        by (Some n) e = subst (λ (t : TreeState (Option ℕ)). IsMostWhere t second n) is_first
+        by None is_o = tt
+        by (Some n) is_o = subst (λ (t : TreeState (Option ℕ)). IsMostWhere t second n) is_first
             (subst (λ (u : TreeState Bool). IsMostWhere (state first.faults node) u n) is_there
-            (a_number first.faults node wanted good good_there space whole all o most n e))
+            (a_number first.faults node wanted good good_there space whole all o most n is_o))

@@ -35,25 +35,25 @@ IsUnder (Some m) n = n ≤ m
 
 -- what is at most the first of two numbers is at most the greater
 under_left : (a b : Option ℕ) (n : ℕ) → IsUnder a n → IsUnder (greater a b) n
-under_left None b n h = absurd h
-under_left (Some x) None n h = h
-under_left (Some x) (Some y) n h = omega (arith, h)
+under_left None b n under = absurd under
+under_left (Some x) None n under = under
+under_left (Some x) (Some y) n under = omega (arith, under)
 
 -- what is at most the second of two numbers is at most the greater
 under_right : (a b : Option ℕ) (n : ℕ) → IsUnder b n → IsUnder (greater a b) n
-under_right None b n h = h
-under_right (Some x) None n h = absurd h
-under_right (Some x) (Some y) n h = omega (arith, h)
+under_right None b n under = under
+under_right (Some x) None n under = absurd under
+under_right (Some x) (Some y) n under = omega (arith, under)
 
 -- the greater is one of the two
 greater_cases : (a b : Option ℕ) (m : ℕ) → greater a b ≡ Some m → (a ≡ Some m) ⊎ (b ≡ Some m)
-greater_cases None b m e = inr e
-greater_cases (Some x) None m e = inl e
-greater_cases (Some x) (Some y) m e =
-    let is : max x y ≡ m = ap (λ o. unwrap_or o 0) e in
+greater_cases None b m is_m = inr is_m
+greater_cases (Some x) None m is_m = inl is_m
+greater_cases (Some x) (Some y) m is_m =
+    let is : max x y ≡ m = ap (λ o. unwrap_or o 0) is_m in
     elim (cases_lt x y) [
-      | inl l ↦ inr (ap Some (let same : y ≡ m = omega (arith, is, l) in same))
-      | inr l ↦ inl (ap Some (let same : x ≡ m = omega (arith, is, l) in same))
+      | inl less ↦ inr (ap Some (let same : y ≡ m = omega (arith, is, less) in same))
+      | inr not_less ↦ inl (ap Some (let same : x ≡ m = omega (arith, is, not_less) in same))
     ]
 
 -- ---- the numbers of paths
@@ -63,43 +63,45 @@ under_most : (k : ℕ) (node : TreeNode (Option ℕ)) (cube : List Literal) (p :
     Contains (paths_from k cube node) p → p.1 ≡ Some n →
     IsUnder (most_of node) n
 -- by induction on the tree: a path of a fork is one of a side, and the greater of two numbers is no less than either
-under_most k (Leaf x) cube p n c e = elim (Contains-cases (cube, x) [] p c) [
-  | inl same ↦ subst (λ o. IsUnder o n) (sym (ap (λ (q : Path (Option ℕ)). q.1) same ∙ e)) (omega arith)
+under_most k (Leaf x) cube p n listed has_n = elim (Contains-cases (cube, x) [] p listed) [
+  | inl same ↦ subst (λ o. IsUnder o n) (sym (ap (λ (q : Path (Option ℕ)). q.1) same ∙ has_n)) (omega arith)
   | inr none ↦ absurd (Contains-nil p none)
 ]
-under_most k (Fork v cut below upper) cube p n c e =
+under_most k (Fork v cut below upper) cube p n listed has_n =
     elim (Contains-append_cases (paths_from k (narrowed_by (up_to v cut) cube) below)
-    (paths_from k (narrowed_by (above k v cut) cube) upper) p c) [
-      | inl i ↦
-          under_left (most_of below) (most_of upper) n (under_most k below (narrowed_by (up_to v cut) cube) p n i e)
-      | inr i ↦
-          under_right (most_of below) (most_of upper) n (under_most k upper (narrowed_by (above k v cut) cube) p n i e)
+    (paths_from k (narrowed_by (above k v cut) cube) upper) p listed) [
+      | inl in_below ↦
+          under_left (most_of below) (most_of upper) n
+          (under_most k below (narrowed_by (up_to v cut) cube) p n in_below has_n)
+      | inr in_upper ↦
+          under_right (most_of below) (most_of upper) n
+          (under_most k upper (narrowed_by (above k v cut) cube) p n in_upper has_n)
     ]
 
 -- if the leaves have a greatest number, some path has it
 most_there : (k : ℕ) (node : TreeNode (Option ℕ)) (cube : List Literal) (m : ℕ) → most_of node ≡ Some m →
     (p : Path (Option ℕ)) × Contains (paths_from k cube node) p × (p.1 ≡ Some m)
 -- by induction on the tree: the greater of the two sides' numbers is that of one side
-most_there k (Leaf x) cube m e = ((cube, x), Contains-first (cube, x) [], e)
-most_there k (Fork v cut below upper) cube m e =
+most_there k (Leaf x) cube m is_m = ((cube, x), Contains-first (cube, x) [], is_m)
+most_there k (Fork v cut below upper) cube m is_m =
     let lower = paths_from k (narrowed_by (up_to v cut) cube) below in
     let higher = paths_from k (narrowed_by (above k v cut) cube) upper in
-    elim (greater_cases (most_of below) (most_of upper) m e) [
-      | inl i ↦ let r = most_there k below (narrowed_by (up_to v cut) cube) m i in
-          (r.0, Contains-append_left lower higher r.0 r.1, r.2)
-      | inr i ↦ let r = most_there k upper (narrowed_by (above k v cut) cube) m i in
-          (r.0, Contains-append_right lower higher r.0 r.1, r.2)
+    elim (greater_cases (most_of below) (most_of upper) m is_m) [
+      | inl in_below ↦ let found = most_there k below (narrowed_by (up_to v cut) cube) m in_below in
+          (found.0, Contains-append_left lower higher found.0 found.1, found.2)
+      | inr in_upper ↦ let found = most_there k upper (narrowed_by (above k v cut) cube) m in_upper in
+          (found.0, Contains-append_right lower higher found.0 found.1, found.2)
     ]
 
 -- if a tree has no greatest number, no path has a number
 pub no_most : (k : ℕ) (node : TreeNode (Option ℕ)) → most_of node ≡ None → (p : Path (Option ℕ)) →
     Contains (paths_from k [] node) p → p.1 ≡ None
-no_most k node none p c = by_value p.1 refl
+no_most k node none p listed = by_value p.1 refl
   where
     -- a number of the path would be under the tree's greatest one, and there is none
     by_value : (o : Option ℕ) → p.1 ≡ o → o ≡ None
-    by_value None e = refl
-    by_value (Some n) e = absurd (subst (λ o. IsUnder o n) none (under_most k node [] p n c e))
+    by_value None is_o = refl
+    by_value (Some n) is_o = absurd (subst (λ o. IsUnder o n) none (under_most k node [] p n listed is_o))
 
 -- some scenario of the graph has the number of a path, since the path's column is tidy and so matches one
 path_reached : (g : Graph) (node : TreeNode (Option ℕ)) → IsGood g.faults node → (m : ℕ) → process_count g ≤ 128 →
@@ -128,14 +130,14 @@ most_reached : (g : Graph) (node : TreeNode (Option ℕ)) → IsGood g.faults no
     All (λ p. IsKnown g p.0) (paths_of g.faults node) →
     IsNumberReached g (paths_of g.faults node) m
 most_reached g node good m most processes known =
-    let x = most_there g.faults node [] m most in
-    path_reached g node good m processes known x.0 x.1 x.2
+    let found = most_there g.faults node [] m most in
+    path_reached g node good m processes known found.0 found.1 found.2
 
 -- the greatest number of the leaves is that of the tree as callers see it
 most_is : (k : ℕ) (node : TreeNode (Option ℕ)) → IsGood k node → (m : ℕ) → most_of node ≡ Some m →
     IsGreatestNumber (record { faults = k; paths = paths_of k node }) m
 most_is k node good m most = record {
-  above = λ p n c e. subst (λ o. IsUnder o n) most (under_most k node [] p n c e);
+  above = λ p n listed has_n. subst (λ o. IsUnder o n) most (under_most k node [] p n listed has_n);
   there = most_there k node [] m most;
   reached = λ g processes same known.
       subst (λ n. IsNumberReached g (paths_of n node) m) (sym same)
@@ -148,9 +150,10 @@ most_is k node good m most = record {
 -- if no greatest number is answered, no path has a number
 pub most_none : (k : ℕ) (node : TreeNode (Option ℕ)) (o : Option ℕ) → o ≡ most_of node →
     IfNone o (All (λ (p : Path (Option ℕ)). p.1 ≡ None) (paths_of k node))
-most_none k node None e =
-    λ i d l. no_most k node (sym e) (get_or (paths_of k node) i d) (Contains-get_or (paths_of k node) i d l)
-most_none k node (Some m) e = tt
+most_none k node None is_most =
+    λ i d below. no_most k node (sym is_most) (get_or (paths_of k node) i d)
+    (Contains-get_or (paths_of k node) i d below)
+most_none k node (Some m) is_most = tt
 
 -- the number that is answered is the greatest of the tree
 pub most_some : (k : ℕ) (node : TreeNode (Option ℕ)) → IsGood k node → (o : Option ℕ) → o ≡ most_of node →
@@ -164,8 +167,8 @@ most_some k node good (Some m) e = most_is k node good m (sym e)
 pub not_without : (k : ℕ) (node : TreeNode (Option ℕ)) (m : ℕ) → most_of node ≡ Some m →
     All (λ (p : Path (Option ℕ)). p.1 ≢ Some m) (paths_of k node) → ⊥
 not_without k node m most none =
-    let x = most_there k node [] m most in
-    All-contains (λ (p : Path (Option ℕ)). p.1 ≢ Some m) (paths_of k node) x.0 none x.1 x.2
+    let found = most_there k node [] m most in
+    All-contains (λ (p : Path (Option ℕ)). p.1 ≢ Some m) (paths_of k node) found.0 none found.1 found.2
 
 -- a greatest number and the least scenario that has it are what `IsGreatestOf` asks for
 pub greatest_of : (g : Graph) (order : List ℕ) (k : ℕ) (node : TreeNode (Option ℕ)) (m : ℕ) → most_of node ≡ Some m →
@@ -173,7 +176,10 @@ pub greatest_of : (g : Graph) (order : List ℕ) (k : ℕ) (node : TreeNode (Opt
     IsLeast g order (HasValueAt (paths_of k node) (Some m)) s →
     IsGreatestOf g order (paths_of k node) m s
 greatest_of g order k node m most s least =
-    record { most = λ p n c e. subst (λ o. IsUnder o n) most (under_most k node [] p n c e); least = least }
+    record {
+      most = λ p n listed has_n. subst (λ o. IsUnder o n) most (under_most k node [] p n listed has_n);
+      least = least;
+    }
 
 -- ---- the tree of one number alone
 
@@ -183,12 +189,12 @@ if_wanted_same m = cond-true (m == m) (Some m) None (eq-eqb m m refl)
 
 -- if a value is kept, it is the wanted number
 if_wanted_is : (m : ℕ) (o : Option ℕ) (n : ℕ) → if_wanted m o ≡ Some n → (o ≡ Some m) × (n ≡ m)
-if_wanted_is m None n e = absurd (none-some n e)
-if_wanted_is m (Some x) n e = elim (cases_eq x m) [
+if_wanted_is m None n is_n = absurd (none-some n is_n)
+if_wanted_is m (Some x) n is_n = elim (cases_eq x m) [
   | inl same ↦
-      let is : Some x ≡ Some n = sym (cond-true (x == m) (Some x) None (eq-eqb x m same)) ∙ e in
+      let is : Some x ≡ Some n = sym (cond-true (x == m) (Some x) None (eq-eqb x m same)) ∙ is_n in
       (ap Some same, omega (arith, same, ap (λ o. unwrap_or o 0) is))
-  | inr differs ↦ absurd (none-some n (sym (cond-false (x == m) (Some x) None (ne_eqb x m differs)) ∙ e))
+  | inr differs ↦ absurd (none-some n (sym (cond-false (x == m) (Some x) None (ne_eqb x m differs)) ∙ is_n))
 ]
 
 -- given: a good tree `all`, and the tree `only` of the number m alone
@@ -211,21 +217,26 @@ module _ (g : Graph) (node : TreeNode (Option ℕ)) (good : IsGood g.faults node
   -- a scenario that has the number in the tree has it in the tree of that number alone
   alone : (s : Scenario) → IsScenario g s → HasValueAt all.paths (Some m) s → HasValueAt only.paths (Some m) s
   alone s law has =
-      let z = the_path g.faults only.paths each s (scenario_few g s law) in
-      (z.0, z.1, map.value s has.0 z.0 (few s law) has.1 z.1 ∙ ap (if_wanted m) has.2 ∙ if_wanted_same m)
+      let only_path = the_path g.faults only.paths each s (scenario_few g s law) in (
+        only_path.0,
+        only_path.1,
+        map.value s has.0 only_path.0 (few s law) has.1 only_path.1 ∙ ap (if_wanted m) has.2
+            ∙ if_wanted_same m,
+      )
 
   -- the least scenario with a number in the tree of m alone is the least that has m in the whole tree
   least_alone : (order : List ℕ) (s : Scenario) → IsLeast g order (HasNumberAt only.paths) s →
       IsLeast g order (HasValueAt all.paths (Some m)) s
   -- it has m there, since only m is kept; an earlier scenario with m would have it in the tree of m alone too
-  least_alone order s h =
-      let z = h.holds.has in
-      let x = path_of s h.lawful in
-      let parts = if_wanted_is m x.0.1 h.holds.number (sym (map.value s x.0 z.0 (few s h.lawful) x.1 z.1) ∙ z.2) in
+  least_alone order s is_least =
+      let only_path = is_least.holds.has in
+      let all_path = path_of s is_least.lawful in
+      let parts = if_wanted_is m all_path.0.1 is_least.holds.number
+      (sym (map.value s all_path.0 only_path.0 (few s is_least.lawful) all_path.1 only_path.1) ∙ only_path.2) in
       record {
-        lawful = h.lawful;
-        holds = (x.0, x.1, parts.0);
-        least = λ u law has. h.least u law (record { number = m; has = alone u law has });
+        lawful = is_least.lawful;
+        holds = (all_path.0, all_path.1, parts.0);
+        least = λ u law has. is_least.least u law (record { number = m; has = alone u law has });
       }
 
   -- if the tree of m alone has no number, no path of the whole tree has m: some scenario would have it in both
@@ -233,13 +244,14 @@ module _ (g : Graph) (node : TreeNode (Option ℕ)) (good : IsGood g.faults node
       All (λ (p : Path (Option ℕ)). p.1 ≡ None) only.paths →
       All (λ (p : Path (Option ℕ)). p.1 ≢ Some m) all.paths
   -- a path with m is reached in some scenario, whose path in the tree of m alone would have m too
-  none_alone processes known none i d l e =
+  none_alone processes known none i d inside is_m =
       let there = subst (λ (t : TreeState (Option ℕ)). Contains t.paths (get_or all.paths i d)) (sym is)
-      (Contains-get_or all.paths i d l) in
-      let r = path_reached g node good m processes known (get_or all.paths i d) there e in
-      let z = alone r.scenario r.lawful
-      (subst (λ (t : TreeState (Option ℕ)). HasValueAt t.paths (Some m) r.scenario) is r.has) in
-      none-some m (sym (All-contains (λ (p : Path (Option ℕ)). p.1 ≡ None) only.paths z.0 none z.1.stands) ∙ z.2)
+      (Contains-get_or all.paths i d inside) in
+      let reached = path_reached g node good m processes known (get_or all.paths i d) there is_m in
+      let in_only = alone reached.scenario reached.lawful
+      (subst (λ (t : TreeState (Option ℕ)). HasValueAt t.paths (Some m) reached.scenario) is reached.has) in
+      none-some m (sym (All-contains (λ (p : Path (Option ℕ)). p.1 ≡ None) only.paths in_only.0 none in_only.1.stands)
+      ∙ in_only.2)
 
   -- ---- as what a call answers
 
@@ -247,11 +259,11 @@ module _ (g : Graph) (node : TreeNode (Option ℕ)) (good : IsGood g.faults node
   pub listed_none : process_count g ≤ 128 → All (λ p. IsKnown g p.0) (paths_of g.faults node) → (o : Option Scenario) →
       IfNone o (All (λ (p : Path (Option ℕ)). p.1 ≡ None) only.paths) →
       IfNone o (All (λ (p : Path (Option ℕ)). p.1 ≢ Some m) all.paths)
-  listed_none processes known None h = none_alone processes known h
-  listed_none processes known (Some s) h = tt
+  listed_none processes known None none_there = none_alone processes known none_there
+  listed_none processes known (Some s) none_there = tt
 
   -- the least scenario of a number in the tree of it alone is the least that has it
   pub listed_some : (order : List ℕ) (o : Option Scenario) → IfSome o (IsLeast g order (HasNumberAt only.paths)) →
       IfSome o (IsLeast g order (HasValueAt all.paths (Some m)))
-  listed_some order None h = tt
-  listed_some order (Some s) h = least_alone order s h
+  listed_some order None is_least = tt
+  listed_some order (Some s) is_least = least_alone order s is_least

@@ -51,13 +51,13 @@ sides_known : {A : Type 0} (side : ForkSide) (left cut : ℕ) (f : BothSides →
     option_map_or f (sides_of side left cut) None ≡ Some x →
     (left ≤ side.left) × (left ≢ 0) × (f (both_sides side left cut) ≡ Some x)
 -- if no places are left, or more than at the last fork, the sides are none, and nothing would come of them
-sides_known {A} side left cut f x e = elim (cases_eq left 0) [
+sides_known {A} side left cut f x is_x = elim (cases_eq left 0) [
   | inl none ↦ absurd (none-some x (sym (ap (λ (o : Option BothSides). option_map_or f o None)
-      (cond-true (left == 0) None (bound side left cut) (eq-eqb left 0 none))) ∙ e))
+      (cond-true (left == 0) None (bound side left cut) (eq-eqb left 0 none))) ∙ is_x))
   | inr some ↦
       let inner : option_map_or f (bound side left cut) None ≡ Some x =
       sym (ap (λ (o : Option BothSides). option_map_or f o None)
-      (cond-false (left == 0) None (bound side left cut) (ne_eqb left 0 some))) ∙ e in
+      (cond-false (left == 0) None (bound side left cut) (ne_eqb left 0 some))) ∙ is_x in
       elim (cases_lt side.left left) [
         | inl past ↦ absurd (none-some x (sym (ap (λ (o : Option BothSides). option_map_or f o None)
             (cond-true (nat_lt side.left left) None (Some (both_sides side left cut)) (lt-ltb side.left left past)))
@@ -90,13 +90,14 @@ walked_tree : (places : List ℕ) (n : TreeNode (Option ℕ)) (rest : List (Tree
     AreForksAlong places side.left n × (after places rest later (found ++ demands_by places side n) ≡ Some all)
 -- by induction on the tree: a fork's cut is read first, then the side above it is walked over, and then the side
 -- below, which was put off
-walked_tree places (Leaf x) rest side later found all e = (tt, sym (after_value places x rest side later found) ∙ e)
-walked_tree places (Fork v cut x y) rest side later found all e =
+walked_tree places (Leaf x) rest side later found all ends =
+    (tt, sym (after_value places x rest side later found) ∙ ends)
+walked_tree places (Fork v cut x y) rest side later found all ends =
     let left = get_or places v 0 in
     let items = reverse (flat y) ++ (reverse (flat x) ++ rest) in
     let known = sides_known side left cut
     (λ (sides : BothSides). walked places items sides.above (sides.below ∷ later) found) all
-    (sym (ap (λ xs. walked places xs side later found) (turned v cut x y rest)) ∙ e) in
+    (sym (ap (λ xs. walked places xs side later found) (turned v cut x y rest)) ∙ ends) in
     let of_above = walked_tree places y (reverse (flat x) ++ rest) (side_above side left cut)
     (side_below side left ∷ later) found all known.2 in
     let of_below = walked_tree places x rest (side_below side left) later

@@ -48,23 +48,23 @@ matched s c = matches c.cube s
 -- a path gives a column that matches only if its cube does, and none if it has no time
 one_more : (b : Bool) (x : Option ℕ) (cube : List Literal) (s : Scenario) → matches cube s ≡ b →
     length (filter (λ (c : Column). matches c.cube s) (column_of cube x)) ≤ cond b 1 0
-one_more b None cube s e = omega arith
-one_more true (Some t) cube s e = omega (
+one_more b None cube s is_b = omega arith
+one_more true (Some t) cube s is_b = omega (
   arith,
-  ap (λ (cs : List Column). length cs) (cond-true (matches cube s) ((record { time = t; cube = cube }) ∷ []) [] e),
+  ap (λ (cs : List Column). length cs) (cond-true (matches cube s) ((record { time = t; cube = cube }) ∷ []) [] is_b),
 )
-one_more false (Some t) cube s e = omega (
+one_more false (Some t) cube s is_b = omega (
   arith,
-  ap (λ (cs : List Column). length cs) (cond-false (matches cube s) ((record { time = t; cube = cube }) ∷ []) [] e),
+  ap (λ (cs : List Column). length cs) (cond-false (matches cube s) ((record { time = t; cube = cube }) ∷ []) [] is_b),
 )
 
 -- a path is counted in a scenario if its cube matches
 path_count : (b : Bool) (p : Path (Option ℕ)) (ps : List (Path (Option ℕ))) (s : Scenario) → matches p.0 s ≡ b →
     length (filter (is_on s) (p ∷ ps)) ≡ cond b 1 0 + length (filter (is_on s) ps)
-path_count true p ps s e =
-    ap length (cond-true (matches p.0 s) (p ∷ filter (is_on s) ps) (filter (is_on s) ps) e) ∙ omega arith
-path_count false p ps s e =
-    ap length (cond-false (matches p.0 s) (p ∷ filter (is_on s) ps) (filter (is_on s) ps) e) ∙ omega arith
+path_count true p ps s is_b =
+    ap length (cond-true (matches p.0 s) (p ∷ filter (is_on s) ps) (filter (is_on s) ps) is_b) ∙ omega arith
+path_count false p ps s is_b =
+    ap length (cond-false (matches p.0 s) (p ∷ filter (is_on s) ps) (filter (is_on s) ps) is_b) ∙ omega arith
 
 -- in a scenario no more columns of some paths match than paths
 no_more : (paths : List (Path (Option ℕ))) (s : Scenario) →
@@ -95,12 +95,12 @@ module _ (g : Graph) (few : process_count g ≤ 128) (urgency : List ℕ)
 
   -- each of them is tidy
   pub tidy_at : (c : Column) → Contains columns c → IsTidyColumn g c
-  tidy_at c j = All-contains (IsTidyColumn g) columns c are.tidy j
+  tidy_at c listed = All-contains (IsTidyColumn g) columns c are.tidy listed
 
   -- so their cubes are good ones
   pub good : AreGood g columns
-  good = All-from_each {P = λ (c : Column). IsGood g c.cube} columns (λ c j.
-      let tidy = tidy_at c j in
+  good = All-from_each {P = λ (c : Column). IsGood g c.cube} columns (λ c listed.
+      let tidy = tidy_at c listed in
       record {
         cube = tidy.cube;
         met = tidy.met;
@@ -116,10 +116,11 @@ module _ (g : Graph) (few : process_count g ≤ 128) (urgency : List ℕ)
   mergeable = record {
     cubes = All-from_each {P = λ (c : Column). IsCube g c.cube} columns (λ c j. (tidy_at c j).cube);
     within = All-from_each {P = λ (c : Column). All (λ (l : Literal). l.high ≤ top g.faults l.variable) c.cube} columns
-        (λ c j. (tidy_at c j).within);
-    met = All-from_each {P = λ (c : Column). (s : Scenario) × IsScenario g s × (matches c.cube s ≡ true)} columns (λ c j.
+        (λ c listed. (tidy_at c listed).within);
+    met = All-from_each {P = λ (c : Column). (s : Scenario) × IsScenario g s × (matches c.cube s ≡ true)} columns
+        (λ c listed.
         let least = All-contains (λ (c : Column). (s : Scenario) × IsLeastMatch g urgency c s) columns c
-        (are_met g few urgency all columns good single) j in
+        (are_met g few urgency all columns good single) listed in
         (least.0, least.1.lawful, least.1.holds));
     apart = single;
   }
@@ -127,27 +128,27 @@ module _ (g : Graph) (few : process_count g ≤ 128) (urgency : List ℕ)
   -- each column is that of a path
   pub path_of : (c : Column) → Contains columns c →
       (x : Path (Option ℕ)) × Contains t.paths x × (x.1 ≡ Some c.time) × (x.0 ≡ c.cube)
-  path_of c j =
+  path_of c listed =
       let back = Contains-permutation columns (columns_of_paths t.paths) c
-      (IsPermutation-sym (columns_of_paths t.paths) columns are.all) j in
-      let p = Contains-flat_map_parts (λ (p : Path (Option ℕ)). column_of p.0 p.1) t.paths c back in
-      let is = from_column p.0.1 p.0.0 c p.2 in
-      (p.0, p.1, is.0, is.1)
+      (IsPermutation-sym (columns_of_paths t.paths) columns are.all) listed in
+      let its_path = Contains-flat_map_parts (λ (p : Path (Option ℕ)). column_of p.0 p.1) t.paths c back in
+      let is = from_column its_path.0.1 its_path.0.0 c its_path.2 in
+      (its_path.0, its_path.1, is.0, is.1)
     where
       -- the column of a path has its time and cube, and a path without a time gives none
       from_column : (x : Option ℕ) (cube : List Literal) (c : Column) → Contains (column_of cube x) c →
           (x ≡ Some c.time) × (cube ≡ c.cube)
-      from_column None cube c j = absurd (Contains-nil c j)
-      from_column (Some n) cube c j = elim (Contains-cases (record { time = n; cube = cube }) [] c j) [
-        | inl e ↦ (ap (λ (d : Column). Some d.time) e, ap (λ (d : Column). d.cube) e)
+      from_column None cube c listed = absurd (Contains-nil c listed)
+      from_column (Some n) cube c listed = elim (Contains-cases (record { time = n; cube = cube }) [] c listed) [
+        | inl is_it ↦ (ap (λ (d : Column). Some d.time) is_it, ap (λ (d : Column). d.cube) is_it)
         | inr none ↦ absurd (Contains-nil c none)
       ]
 
   -- a path with a time gives a column
   pub column_there : (x : Path (Option ℕ)) (time : ℕ) → Contains t.paths x → x.1 ≡ Some time →
       Contains columns (record { time = time; cube = x.0 })
-  column_there x time j e =
+  column_there x time listed has_time =
       let column : Column = record { time = time; cube = x.0 } in
       Contains-permutation (columns_of_paths t.paths) columns column are.all
-      (Contains-flat_map (λ (p : Path (Option ℕ)). column_of p.0 p.1) t.paths x column j
-      (subst (λ o. Contains (column_of x.0 o) column) (sym e) (Contains-first column [])))
+      (Contains-flat_map (λ (p : Path (Option ℕ)). column_of p.0 p.1) t.paths x column listed
+      (subst (λ o. Contains (column_of x.0 o) column) (sym has_time) (Contains-first column [])))

@@ -11,8 +11,8 @@ use Rattle.cpg_tree_columns.specs.declared.demanding.BothSides.{BothSides}
 abbrev pub first_side : ForkSide
 first_side = record { left = 256; low = 0; asked = 0 }
 
--- the low of a fork's variable on the way to the fork: that of the last fork if it is on the same variable, so has as many
--- places left, and 0 otherwise
+-- the low of a fork's variable on the way to the fork: that of the last fork if it is on the same variable, so has as
+-- many places left, and 0 otherwise
 abbrev pub low_so_far : ForkSide → ℕ → ℕ
 low_so_far side left = if left == side.left then side.low else 0
 
@@ -37,8 +37,8 @@ side_above side left cut = record {
 abbrev pub both_sides : ForkSide → ℕ → ℕ → BothSides
 both_sides side left cut = record { below = side_below side left; above = side_above side left cut }
 
--- what is known on both sides of a fork that stands along the order; None if it doesn't: `left`, the places that are left
--- at its variable, is 0 or more than at the last fork
+-- what is known on both sides of a fork that stands along the order; None if it doesn't: `left`, the places that are
+-- left at its variable, is 0 or more than at the last fork
 abbrev pub sides_of : ForkSide → ℕ → ℕ → Option BothSides
 sides_of side left cut = if left == 0 then None else
     if nat_lt side.left left then None else Some (both_sides side left cut)

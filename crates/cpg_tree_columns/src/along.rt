@@ -11,7 +11,7 @@ ghost use Rattle.cpg_tree_columns.specs.Columns.{columns_of_paths};
 
 use cpg_base::{Order, OutOfMemory, Problem};
 use cpg_cube::{VARIABLES, places_along};
-use cpg_tree::{Top, Tree, TreeItem, top_of};
+use cpg_tree::{OptionalTime, Top, Tree, TreeItem, top_of};
 
 /// How many places of the order are left at its first variable: it has a place for each of 256 numbers.
 const ALL_PLACES: u16 = 256;
@@ -54,7 +54,7 @@ fn are_along<T: Copy>(items: &[TreeItem<T>], places: &[u16; VARIABLES], left: u1
 /// Whether the columns of a tree are known to stand by their least scenarios along the order, as they are found from
 /// left to right. False says nothing. The one error is `OutOfMemory`.
 pub(crate) fn stand_along(
-    tree: &Tree<Option<u64>>,
+    tree: &Tree<OptionalTime>,
     problem: &Problem,
     order: &Order,
 ) -> Result<bool, OutOfMemory>

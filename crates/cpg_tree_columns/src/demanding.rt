@@ -16,27 +16,27 @@ ghost use Rattle.cpg_tree_columns.specs.Demanded.{demands_at, demands_by, first_
 use cpg_base::{Order, OutOfMemory, Problem};
 use cpg_cube::{VARIABLES, places_along};
 use cpg_merging::demand;
-use cpg_tree::{Tree, TreeItem};
+use cpg_tree::{OptionalTime, Tree, TreeItem};
 
 /// Whether an item of a tree's list is a value that is a time.
-fn is_time(item: &TreeItem<Option<u64>>) -> bool
+fn is_time(item: &TreeItem<OptionalTime>) -> bool
     ensures { result ≡ is_time item.now }
 {
     match item {
-        TreeItem::Value(time) => time.is_some(),
+        TreeItem::Value(time) => time.get().is_some(),
         TreeItem::Cut { .. } => false,
     }
 }
 
 /// Returns how many items are values that are times.
-fn time_count(items: &[TreeItem<Option<u64>>]) -> usize
+fn time_count(items: &[TreeItem<OptionalTime>]) -> usize
     ensures { result ≡ length (filter is_time items.now) }
 {
     items.iter().filter(|item| is_time(item)).count()
 }
 
 /// Returns how many columns the tree has: one for each leaf with a time.
-pub(crate) fn column_count(tree: &Tree<Option<u64>>) -> usize
+pub(crate) fn column_count(tree: &Tree<OptionalTime>) -> usize
     ensures { result ≡ length (columns_of_paths tree.now.paths) }
 {
     time_count(tree.items())
@@ -93,10 +93,10 @@ fn sides_of(side: ForkSide, left: u16, cut: u8) -> Option<BothSides>
 }
 
 /// Adds the demand of a leaf if it has a time.
-fn push_demand(time: Option<u64>, asked: u8, demands: &mut Vec<u64>) -> Result<(), OutOfMemory>
+fn push_demand(time: OptionalTime, asked: u8, demands: &mut Vec<u64>) -> Result<(), OutOfMemory>
     ensures { OnOk result (demands.new.items ≡ demands.old.items ++ demands_at time asked) }
 {
-    if let Some(time) = time {
+    if let Some(time) = time.get() {
         demands.push(demand(time, asked))?;
     }
     Ok(())
@@ -107,7 +107,7 @@ fn push_demand(time: Option<u64>, asked: u8, demands: &mut Vec<u64>) -> Result<(
 /// demands. A fork is behind its sides in the list, so items are read from last to first; what the way to the side
 /// below says waits in `later`.
 fn push_along(
-    items: &[TreeItem<Option<u64>>],
+    items: &[TreeItem<OptionalTime>],
     places: &[u16; VARIABLES],
     later: &mut Vec<ForkSide>,
     demands: &mut Vec<u64>,
@@ -151,7 +151,7 @@ fn push_along(
 /// Returns the demands of the columns from right to left, if the columns are known to stand by their least scenarios
 /// along the order. `None` guarantees nothing. The one error is `OutOfMemory`.
 pub(crate) fn demands_along(
-    tree: &Tree<Option<u64>>,
+    tree: &Tree<OptionalTime>,
     problem: &Problem,
     order: &Order,
 ) -> Result<Option<Vec<u64>>, OutOfMemory>

@@ -13,12 +13,12 @@ ghost use Rattle.cpg_tree.specs.TreeNode.{TreeNode};
 use crate::along::stand_along;
 use cpg_base::{Order, OutOfMemory, Problem, top};
 use cpg_cube::{Column, Cube, Listing, Literal};
-use cpg_tree::{Top, Tree, TreeItem, top_of};
+use cpg_tree::{OptionalTime, Top, Tree, TreeItem, top_of};
 
 /// Adds the columns of a tree that is entered with a cube, from left to right. The cube is narrowed on the way down
 /// and restored on the way up; at an error it may be any.
 fn push_columns(
-    items: &[TreeItem<Option<u64>>],
+    items: &[TreeItem<OptionalTime>],
     k: u8,
     cube: &mut Cube,
     columns: &mut Vec<Column>,
@@ -30,7 +30,7 @@ fn push_columns(
 {
     match top_of(items) {
         Top::Value(time) => {
-            if let Some(time) = time {
+            if let Some(time) = time.get() {
                 columns.push(Column {
                     time,
                     cube: cube.copy()?,
@@ -81,7 +81,7 @@ fn push_columns(
 
 /// Returns the columns of a tree from left to right; they are tidy. The one error is `OutOfMemory`.
 pub(crate) fn listed(
-    tree: &Tree<Option<u64>>,
+    tree: &Tree<OptionalTime>,
     problem: &Problem,
 ) -> Result<Vec<Column>, OutOfMemory>
     requires faults { tree.now.faults ≡ problem.now.faults }
@@ -97,7 +97,7 @@ pub(crate) fn listed(
 }
 
 /// Does nothing: its contract says that the columns of a tree over a graph's scenarios are tidy.
-pub(crate) fn columns_are_tidy(tree: &Tree<Option<u64>>, problem: &Problem)
+pub(crate) fn columns_are_tidy(tree: &Tree<OptionalTime>, problem: &Problem)
     requires faults { tree.now.faults ≡ problem.now.faults }
     requires known { All (λ p. IsKnown problem.now p.0) tree.now.paths }
     ensures { All (IsTidyColumn problem.now) (columns_of_paths tree.now.paths) }
@@ -110,7 +110,7 @@ pub(crate) fn columns_are_tidy(tree: &Tree<Option<u64>>, problem: &Problem)
 /// Returns the columns of a tree from left to right. Memory for `room` of them is taken before the walk. The one error is
 /// `OutOfMemory`.
 pub(crate) fn columns_as_found(
-    tree: &Tree<Option<u64>>,
+    tree: &Tree<OptionalTime>,
     room: usize,
 ) -> Result<Vec<Column>, OutOfMemory>
     ensures { IfOk result (λ r. r.items ≡ columns_of_paths tree.now.paths) }
@@ -125,7 +125,7 @@ pub(crate) fn columns_as_found(
 /// Returns the columns of a tree from left to right, and whether they are known to stand by their least scenarios
 /// along the order. The one error is `OutOfMemory`.
 pub(crate) fn listing_along(
-    tree: &Tree<Option<u64>>,
+    tree: &Tree<OptionalTime>,
     problem: &Problem,
     order: &Order,
 ) -> Result<Listing, OutOfMemory>
@@ -144,7 +144,7 @@ pub(crate) fn listing_along(
 /// Returns the columns of a tree, sorted by the least scenario that each matches along the order. The one error is
 /// `OutOfMemory`.
 pub fn columns(
-    tree: &Tree<Option<u64>>,
+    tree: &Tree<OptionalTime>,
     problem: &Problem,
     order: &Order,
 ) -> Result<Vec<Column>, OutOfMemory>

@@ -8,7 +8,7 @@ use crate::listing::columns_as_found;
 use cpg_base::OutOfMemory;
 use cpg_cube::Column;
 use cpg_table::Row;
-use cpg_tree::Tree;
+use cpg_tree::{OptionalTime, Tree};
 use std::alloc::Global;
 use std::marker::Model;
 
@@ -20,7 +20,7 @@ enum MadeColumns {
     /// A tree in place of the list.
     Kept {
         /// The tree that lists them, from left to right.
-        tree: Tree<Option<u64>>,
+        tree: Tree<OptionalTime>,
         /// How many columns the tree lists.
         count: usize,
     },
@@ -54,7 +54,7 @@ pub enum RowSource<'a> {
     /// A list of them.
     Listed(&'a [Column]),
     /// The tree that lists them, from left to right.
-    Kept(&'a Tree<Option<u64>>),
+    Kept(&'a Tree<OptionalTime>),
 }
 
 impl MadeRow {
@@ -69,7 +69,7 @@ impl MadeRow {
     }
 
     /// Returns the row of an item that has the columns of a tree; `count` is how many these are.
-    pub(crate) fn kept(item: u32, tree: Tree<Option<u64>>, count: usize) -> MadeRow
+    pub(crate) fn kept(item: u32, tree: Tree<OptionalTime>, count: usize) -> MadeRow
         requires { count ≡ length (columns_of_paths tree.paths) }
         ensures { result ≡ record { item = item; columns = columns_of_paths tree.paths } }
     {

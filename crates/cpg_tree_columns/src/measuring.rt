@@ -11,7 +11,7 @@ use crate::past::past;
 use crate::peaks::greatest;
 use crate::tops::{bar_of, past_tops, reaches};
 use cpg_base::{Order, OutOfMemory, Problem, Scenario, is_before};
-use cpg_tree::Tree;
+use cpg_tree::{OptionalTime, Tree};
 use std::alloc::Global;
 
 /// The greatest time that a process has in any scenario, in time units: an end, or how far one is past its due.
@@ -91,7 +91,7 @@ impl Peak {
         self,
         problem: &Problem,
         urgency: &Order,
-        tree: &Tree<Option<u64>>,
+        tree: &Tree<OptionalTime>,
         process: u32,
     ) -> Result<Peak, OutOfMemory>
         requires order { IsPermutation (numbers_below (process_count problem.now)) urgency.now }
@@ -110,7 +110,7 @@ impl Peak {
         self,
         problem: &Problem,
         urgency: &Order,
-        end: &Tree<Option<u64>>,
+        end: &Tree<OptionalTime>,
         process: u32,
     ) -> Result<Peak, OutOfMemory>
         requires order { IsPermutation (numbers_below (process_count problem.now)) urgency.now }
@@ -130,7 +130,7 @@ pub fn worst(
     alloc: Global,
     problem: &Problem,
     urgency: &Order,
-    ends: &[Tree<Option<u64>>],
+    ends: &[Tree<OptionalTime>],
     tops: &[Option<u64>],
 ) -> Result<Peak, OutOfMemory>
     requires order { IsPermutation (numbers_below (process_count problem.now)) urgency.now }
@@ -156,7 +156,7 @@ pub fn excess(
     alloc: Global,
     problem: &Problem,
     urgency: &Order,
-    ends: &[Tree<Option<u64>>],
+    ends: &[Tree<OptionalTime>],
     tops: &[Option<u64>],
 ) -> Result<Peak, OutOfMemory>
     requires order { IsPermutation (numbers_below (process_count problem.now)) urgency.now }

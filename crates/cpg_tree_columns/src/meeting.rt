@@ -8,7 +8,7 @@ ghost use Rattle.cpg_tree.specs.Flat.{IsFlat, flat};
 ghost use Rattle.cpg_tree.specs.TreeNode.{TreeNode};
 ghost use Rattle.cpg_tree_columns.specs.Meeting.{IsMetIn, IsMostInSpace, IsUpTo, IsMostWhere, IsNowhere};
 
-use cpg_tree::{Space, Top, Tree, TreeItem, top_of};
+use cpg_tree::{OptionalTime, Space, Top, Tree, TreeItem, top_of};
 
 /// Whether the tree is true in some scenario of the space. The space is narrowed on the way down and is as before in
 /// the end.
@@ -67,7 +67,7 @@ fn is_greater(number: Option<u64>, best: Option<u64>) -> bool
 /// `wanted` is true; `None` exactly if there is neither. The space is narrowed on the way down and is as before in the
 /// end.
 fn most_in_space(
-    items: &[TreeItem<Option<u64>>],
+    items: &[TreeItem<OptionalTime>],
     space: &mut Space,
     wanted: &[TreeItem<bool>],
     best: Option<u64>,
@@ -80,6 +80,7 @@ fn most_in_space(
     match top_of(items) {
         Top::Value(number) => {
             // the number would change nothing, so the other tree isn't asked
+            let number = number.get();
             if !is_greater(number, best) {
                 return best;
             }
@@ -116,7 +117,7 @@ fn most_in_space(
 
 /// Returns the greatest number that `tree` has in a scenario in which `wanted` is true; `None` exactly if there is
 /// none.
-pub fn most_where(tree: &Tree<Option<u64>>, wanted: &Tree<bool>) -> Option<u64>
+pub fn most_where(tree: &Tree<OptionalTime>, wanted: &Tree<bool>) -> Option<u64>
     requires same { tree.now.faults ≡ wanted.now.faults }
     ensures none { IfNone result (IsNowhere tree.now wanted.now) }
     ensures some { IfSome result (IsMostWhere tree.now wanted.now) }

@@ -18,7 +18,7 @@ use crate::along::stand_along;
 use crate::listing::listed;
 use cpg_base::{Order, OutOfMemory, Problem, Scenario, top};
 use cpg_cube::{Cube, Literal, first_by_least_scenario};
-use cpg_tree::{Top, Tree, TreeItem, top_of};
+use cpg_tree::{OptionalTime, Top, Tree, TreeItem, top_of};
 
 /// Returns the greater of two numbers, the only one if the other is missing, and `None` if both are.
 fn greater(first: Option<u64>, second: Option<u64>) -> Option<u64>
@@ -34,26 +34,26 @@ fn greater(first: Option<u64>, second: Option<u64>) -> Option<u64>
 }
 
 /// Returns the number if it is the wanted one, and `None` otherwise.
-fn if_wanted(wanted: u64, number: Option<u64>) -> Option<u64>
+fn if_wanted(wanted: u64, number: OptionalTime) -> Option<u64>
     ensures { result ≡ if_wanted wanted number }
 {
-    let number = number?;
+    let number = number.get()?;
     if number == wanted { Some(number) } else { None }
 }
 
 /// Returns the number of an item of a tree's list, if it is a leaf with one; `None` otherwise.
-fn leaf_number(item: TreeItem<Option<u64>>) -> Option<u64>
+fn leaf_number(item: TreeItem<OptionalTime>) -> Option<u64>
     ensures { result ≡ leaf_number item }
 {
     match item {
-        TreeItem::Value(number) => number,
+        TreeItem::Value(number) => number.get(),
         TreeItem::Cut { .. } => None,
     }
 }
 
 /// Returns the greatest number of the leaves; `None` if no leaf has one. Forks don't matter, so one pass over the list
 /// finds it.
-fn most_of(items: &[TreeItem<Option<u64>>]) -> Option<u64>
+fn most_of(items: &[TreeItem<OptionalTime>]) -> Option<u64>
     requires { IsFlat items.now }
     ensures { (n : TreeNode (Option ℕ)) → items.now ≡ flat n → result ≡ most_of n }
 {
@@ -65,18 +65,18 @@ fn most_of(items: &[TreeItem<Option<u64>>]) -> Option<u64>
 }
 
 /// Returns the tree that has `wanted` where `tree` has it, and no number elsewhere.
-fn only_wanted(tree: &Tree<Option<u64>>, wanted: u64) -> Result<Tree<Option<u64>>, OutOfMemory>
+fn only_wanted(tree: &Tree<OptionalTime>, wanted: u64) -> Result<Tree<OptionalTime>, OutOfMemory>
     ensures is { IfOk result (IsMap (λ x z. z ≡ if_wanted wanted x) tree.now) }
     ensures each { IfOk result (λ t. HasOnePathEach t.faults t.paths) }
     ensures pass { IfOk result (λ t. (test : ℕ → Bool) → DoPathsPass test tree.now.paths → DoPathsPass test t.paths) }
 {
-    tree.map(&|number: Option<u64>| if_wanted(wanted, number))
+    tree.map(&|number: OptionalTime| OptionalTime::of(if_wanted(wanted, number)))
 }
 
 /// Returns the least scenario along the order that has some number; `None` exactly if none has one. The one error is
 /// `OutOfMemory`.
 fn first_with_number(
-    tree: &Tree<Option<u64>>,
+    tree: &Tree<OptionalTime>,
     problem: &Problem,
     order: &Order,
 ) -> Result<Option<Scenario>, OutOfMemory>
@@ -103,7 +103,7 @@ fn first_with_number(
 /// Returns the least scenario along the order that has the number, by a list of the columns that have it; `None`
 /// exactly if no path has it. The one error is `OutOfMemory`.
 fn least_listed(
-    tree: &Tree<Option<u64>>,
+    tree: &Tree<OptionalTime>,
     problem: &Problem,
     order: &Order,
     wanted: u64,
@@ -126,7 +126,7 @@ fn least_listed(
 /// Narrows the cube to that of the first leaf from the left that has the number, and returns true. If no leaf has it,
 /// returns false and leaves the cube as it was.
 fn narrow_to_first(
-    items: &[TreeItem<Option<u64>>],
+    items: &[TreeItem<OptionalTime>],
     k: u8,
     cube: &mut Cube,
     wanted: u64,
@@ -190,7 +190,7 @@ fn narrow_to_first(
 /// columns stand by their least scenarios along an order, no scenario that is earlier along it has the number. The one error
 /// is `OutOfMemory`.
 fn least_found(
-    tree: &Tree<Option<u64>>,
+    tree: &Tree<OptionalTime>,
     problem: &Problem,
     wanted: u64,
 ) -> Result<Option<Scenario>, OutOfMemory>
@@ -212,7 +212,7 @@ fn least_found(
 /// Returns the least scenario along the order that has the number; `None` exactly if no path has it. The one error is
 /// `OutOfMemory`.
 fn least_with(
-    tree: &Tree<Option<u64>>,
+    tree: &Tree<OptionalTime>,
     problem: &Problem,
     order: &Order,
     wanted: u64,
@@ -232,7 +232,7 @@ fn least_with(
 }
 
 /// Returns the greatest number of the paths; `None` exactly if no path has one.
-pub fn most(tree: &Tree<Option<u64>>) -> Option<u64>
+pub fn most(tree: &Tree<OptionalTime>) -> Option<u64>
     ensures none { IfNone result (All (λ p. p.1 ≡ None) tree.now.paths) }
     ensures some { IfSome result (IsGreatestNumber tree.now) }
 {
@@ -242,7 +242,7 @@ pub fn most(tree: &Tree<Option<u64>>) -> Option<u64>
 /// Returns the greatest number with the least scenario along the order that has it; `None` exactly if no path has a
 /// number. The one error is `OutOfMemory`.
 pub fn greatest(
-    tree: &Tree<Option<u64>>,
+    tree: &Tree<OptionalTime>,
     problem: &Problem,
     order: &Order,
 ) -> Result<Option<(u64, Scenario)>, OutOfMemory>

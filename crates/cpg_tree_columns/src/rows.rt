@@ -13,7 +13,7 @@ use crate::made_row::MadeRow;
 use cpg_base::{Order, OutOfMemory, Problem};
 use cpg_cube::Column;
 use cpg_merging::{do_demands_differ, merged_tidy};
-use cpg_tree::Tree;
+use cpg_tree::{OptionalTime, Tree};
 use std::alloc::Global;
 
 /// Returns the columns of a start, merged.
@@ -21,7 +21,7 @@ fn start_columns(
     alloc: Global,
     problem: &Problem,
     urgency: &Order,
-    tree: &Tree<Option<u64>>,
+    tree: &Tree<OptionalTime>,
 ) -> Result<Vec<Column>, OutOfMemory>
     requires order { IsPermutation (numbers_below (process_count problem.now)) urgency.now }
     requires tree { IsTree problem.now tree.now }
@@ -39,7 +39,7 @@ fn start_columns(
 fn start_as_found(
     problem: &Problem,
     urgency: &Order,
-    tree: &Tree<Option<u64>>,
+    tree: &Tree<OptionalTime>,
 ) -> Result<Option<usize>, OutOfMemory>
     requires order { IsPermutation (numbers_below (process_count problem.now)) urgency.now }
     requires tree { IsTree problem.now tree.now }
@@ -64,7 +64,7 @@ fn start_row(
     alloc: Global,
     problem: &Problem,
     urgency: &Order,
-    tree: Tree<Option<u64>>,
+    tree: Tree<OptionalTime>,
     item: u32,
 ) -> Result<MadeRow, OutOfMemory>
     requires order { IsPermutation (numbers_below (process_count problem.now)) urgency.now }
@@ -83,7 +83,7 @@ fn start_row(
 fn send_row(
     problem: &Problem,
     urgency: &Order,
-    tree: Tree<Option<u64>>,
+    tree: Tree<OptionalTime>,
     item: u32,
 ) -> Result<MadeRow, OutOfMemory>
     requires order { IsPermutation (numbers_below (process_count problem.now)) urgency.now }
@@ -107,7 +107,7 @@ pub fn row(
     alloc: Global,
     problem: &Problem,
     urgency: &Order,
-    tree: Tree<Option<u64>>,
+    tree: Tree<OptionalTime>,
     item: u32,
 ) -> Result<MadeRow, OutOfMemory>
     requires order { IsPermutation (numbers_below (process_count problem.now)) urgency.now }

@@ -7,11 +7,11 @@ ghost use Rattle.cpg_tree_columns.specs.Tops.{AreTops, bar_of, past_tops, reache
 use crate::past::time_past;
 use crate::peaks::most;
 use cpg_base::{OutOfMemory, Problem};
-use cpg_tree::Tree;
+use cpg_tree::{OptionalTime, Tree};
 use std::alloc::Global;
 
 /// Returns the greatest number of each tree, if it has one.
-pub fn tops_of(alloc: Global, trees: &[Tree<Option<u64>>]) -> Result<Vec<Option<u64>>, OutOfMemory>
+pub fn tops_of(alloc: Global, trees: &[Tree<OptionalTime>]) -> Result<Vec<Option<u64>>, OutOfMemory>
     ensures { IfOk result (λ tops. AreTops trees.now (length trees.now) tops.items) }
 {
     let mut tops = Vec::new(alloc);

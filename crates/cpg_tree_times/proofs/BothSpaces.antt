@@ -15,7 +15,7 @@ pub made_in_both : {T U V : Type 0} (answers : T → U → V → Type 0) (spaces
     IsJoinOf answers spaces.asked a b r →
     IsJoinIn answers (IsInBothSpaces spaces) a b r
 made_in_both answers spaces a b r made =
-    made_narrower (IsInSpace spaces.asked) (IsInBothSpaces spaces) _ _ _ r made (λ s d. d.0)
+    made_narrower (IsInSpace spaces.asked) (IsInBothSpaces spaces) _ _ _ r made (λ s inside. inside.0)
 
 -- answers made with the part of a tree that the space walked comes to are made with the tree
 pub both_whole : {T U V : Type 0} (answers : T → U → V → Type 0) (spaces : SpacePair) (a : TreeNode T)
@@ -23,8 +23,8 @@ pub both_whole : {T U V : Type 0} (answers : T → U → V → Type 0) (spaces :
     IsTreeWithin spaces.walked b part →
     IsJoinIn answers (IsInBothSpaces spaces) a part r → IsJoinIn answers (IsInBothSpaces spaces) a b r
 both_whole answers spaces a b part r same made = made_weaker (IsInBothSpaces spaces) _ _ _ _ _ _ r made
-    (λ s z d t. subst (λ y. answers (value_at a s) y z) (same.value s d.1) t)
-    (λ s u d. omega (arith, same.lows s u d.1)) (λ k s u d. omega (arith, same.highs k s u d.1))
+    (λ s z inside has_fact. subst (λ y. answers (value_at a s) y z) (same.value s inside.1) has_fact)
+    (λ s u inside. omega (arith, same.lows s u inside.1)) (λ k s u inside. omega (arith, same.highs k s u inside.1))
 
 -- ---- two spaces, put back above a cut
 
@@ -41,7 +41,8 @@ module _ (spaces shut inner opened : SpacePair) (v : ℕ) (highs : Highs) (back 
       IsInBothSpaces spaces s
       → cut < number_of s v →
       IsInBothSpaces upper s
-  both_reopened upper cut lies_upper s lies h = lies_upper s (subst (λ r. IsInBothSpaces r s) (sym both_opened) lies) h
+  both_reopened upper cut lies_upper s lies above =
+      lies_upper s (subst (λ r. IsInBothSpaces r s) (sym both_opened) lies) above
 
 -- ---- a fork at which all scenarios of two spaces go one way
 

@@ -44,7 +44,7 @@ forks_in number (Fork v cut below above) = omega (
 
 -- half of an odd number, rounded down: a list of a tree's items has one leaf more than forks
 half : (items forks : ℕ) → items ≡ 2 * forks + 1 → items / 2 ≡ forks
-half items forks e = omega (arith, e)
+half items forks counted = omega (arith, counted)
 
 -- half of a list's items, rounded down, are as many as the tree's forks
 pub forks_are : {T : Type 0} (number : T → ℕ) (n : TreeNode T) (items : List (TreeItem T)) → items ≡ flat n →
@@ -143,18 +143,18 @@ module _ {T U : Type 0} (number : T → ℕ) (other_number : U → ℕ) (n : Tre
   second_bounds =
       ap (λ k. drop k both) long ∙ ap (drop (length first)) two ∙ drop-append_seam first (bounds_in other_number m)
 
--- if the least number of one span is at least the greatest of another, the one tree is at least the other everywhere
+-- if the least number of the span of a is at least the greatest of that of b, a is at least b everywhere
 pub at_least_by : {T U : Type 0} (number : T → ℕ) (other_number : U → ℕ) (a : TreeNode T) (b : TreeNode U)
     (own others : Span) (is : Bool) →
     own ≡ span_in number a → others ≡ span_in other_number b → is ≡ nat_le others.most own.least → is ≡ true →
     IsAtLeast number other_number a b
 -- a number of b is at most b's greatest, which is at most a's least, which is at most a number of a
-at_least_by number other_number a b own others is first second e h = λ s t.
+at_least_by number other_number a b own others is own_is others_is is_test holds = λ s t.
     omega (
       arith,
       most_over other_number b s,
       least_under number a t,
-      leb-true others.most own.least (sym e ∙ h),
-      ap (λ (x : Span). x.least) first,
-      ap (λ (x : Span). x.most) second,
+      leb-true others.most own.least (sym is_test ∙ holds),
+      ap (λ (x : Span). x.least) own_is,
+      ap (λ (x : Span). x.most) others_is,
     )

@@ -36,30 +36,32 @@ module _ {T : Type 0} (v cut : ℕ) (x y n : TreeNode T) (items : List (TreeItem
     pub bounded_above : ((s : Scenario) → IsInSpace space s → cut < number_of s v) →
         ((number : T → ℕ) → bounds ≡ bounds_in number (Fork v cut x y) → side ≡ bounds_in number y) →
         IsBoundedPartList space y side part spans → IsBoundedPartList space n bounds part spans
-    -- p: the tree that was added, how its list stands in the new one, and what is known of it, which carries over
-    bounded_above only cuts p = (
-      p.0,
-      p.1,
+    -- `of_side`: the tree of the part, that the part is its list, what the space finds in it, and its spans, all of
+    -- which carries over
+    bounded_above only cuts of_side = (
+      of_side.0,
+      of_side.1,
       record {
-        same = one_above_of (λ s x z. z ≡ x) (IsInSpace space) v cut x y n fork_is p.0 p.2.same only;
-        pass = λ test pass. p.2.pass test (passes_parts test v cut x y n fork_is pass).2;
+        same = one_above_of (λ s x z. z ≡ x) (IsInSpace space) v cut x y n fork_is of_side.0 of_side.2.same only;
+        pass = λ test pass. of_side.2.pass test (passes_parts test v cut x y n fork_is pass).2;
       },
-      λ number e. p.3 number (cuts number (e ∙ ap (bounds_in number) fork_is)),
+      λ number e. of_side.3 number (cuts number (e ∙ ap (bounds_in number) fork_is)),
     )
 
     -- if all scenarios of the space go below, the part of the side below, with its spans, is the part of the fork
     pub bounded_below : ((s : Scenario) → IsInSpace space s → number_of s v ≤ cut) →
         ((number : T → ℕ) → bounds ≡ bounds_in number (Fork v cut x y) → side ≡ bounds_in number x) →
         IsBoundedPartList space x side part spans → IsBoundedPartList space n bounds part spans
-    -- p: the tree that was added, how its list stands in the new one, and what is known of it, which carries over
-    bounded_below only cuts p = (
-      p.0,
-      p.1,
+    -- `of_side`: the tree of the part, that the part is its list, what the space finds in it, and its spans, all of
+    -- which carries over
+    bounded_below only cuts of_side = (
+      of_side.0,
+      of_side.1,
       record {
-        same = one_below_of (λ s x z. z ≡ x) (IsInSpace space) v cut x y n fork_is p.0 p.2.same only;
-        pass = λ test pass. p.2.pass test (passes_parts test v cut x y n fork_is pass).1;
+        same = one_below_of (λ s x z. z ≡ x) (IsInSpace space) v cut x y n fork_is of_side.0 of_side.2.same only;
+        pass = λ test pass. of_side.2.pass test (passes_parts test v cut x y n fork_is pass).1;
       },
-      λ number e. p.3 number (cuts number (e ∙ ap (bounds_in number) fork_is)),
+      λ number e. of_side.3 number (cuts number (e ∙ ap (bounds_in number) fork_is)),
     )
 
 -- a side has the spans of its forks if the whole does
@@ -75,7 +77,8 @@ pub part_bounded : {T : Type 0} (number : T → ℕ) (space : Space) (items part
     (bounds spans : List Span) →
     IsBounded number items bounds →
     ((n : TreeNode T) → items ≡ flat n → IsBoundedPartList space n bounds part spans) → IsBounded number part spans
-part_bounded number space items part bounds spans is parts = let p = parts is.0 is.1 in (p.0, p.1, p.3 number is.2)
+part_bounded number space items part bounds spans is parts = let its_part = parts is.0 is.1 in
+    (its_part.0, its_part.1, its_part.3 number is.2)
 
 -- ---- one of two trees, with the part of the other that the space walked comes to
 
@@ -91,15 +94,15 @@ module _ {T U V : Type 0} (number : T → ℕ) (other_number : U → ℕ) (makes
   pub own_added : IsAtLeast number other_number n part →
       AddsTree (IsFilled (λ (x : ℕ) (y : T) (z : V). makes (max x (number y)) z) spaces.asked 0 n) old new
       → AddsTree (IsJoinedIn answers spaces n m) old new
-  -- p: the tree that was added, how its list stands in the new one, and what is known of it, which carries over
-  own_added least p = (
-    p.0,
-    p.1,
+  -- `added`: the tree that was added, how its list stands in the new one, and what is known of it, which carries over
+  own_added least added = (
+    added.0,
+    added.1,
     record {
-      made = both_whole answers spaces n m part p.0 is.same (made_in_both answers spaces n part p.0
-          (first_greater number other_number makes spaces.asked n part p.0 least p.2.made));
-      fit = p.2.fit;
-      pass = λ test own other. p.2.pass test own;
+      made = both_whole answers spaces n m part added.0 is.same (made_in_both answers spaces n part added.0
+          (first_greater number other_number makes spaces.asked n part added.0 least added.2.made));
+      fit = added.2.fit;
+      pass = λ test own other. added.2.pass test own;
     },
   )
 
@@ -107,15 +110,15 @@ module _ {T U V : Type 0} (number : T → ℕ) (other_number : U → ℕ) (makes
   pub other_added : IsAtLeast other_number number part n →
       AddsTree (IsFilled (λ (x : ℕ) (y : U) (z : V). makes (max x (other_number y)) z) spaces.asked 0 part) old new →
       AddsTree (IsJoinedIn answers spaces n m) old new
-  -- p: the tree that was added, how its list stands in the new one, and what is known of it, which carries over
-  other_added least p = (
-    p.0,
-    p.1,
+  -- `added`: the tree that was added, how its list stands in the new one, and what is known of it, which carries over
+  other_added least added = (
+    added.0,
+    added.1,
     record {
-      made = both_whole answers spaces n m part p.0 is.same (made_in_both answers spaces n part p.0
-          (second_greater number other_number makes spaces.asked n part p.0 least p.2.made));
-      fit = p.2.fit;
-      pass = λ test own other. p.2.pass test (is.pass test other);
+      made = both_whole answers spaces n m part added.0 is.same (made_in_both answers spaces n part added.0
+          (second_greater number other_number makes spaces.asked n part added.0 least added.2.made));
+      fit = added.2.fit;
+      pass = λ test own other. added.2.pass test (is.pass test other);
     },
   )
 
@@ -123,15 +126,15 @@ module _ {T U V : Type 0} (number : T → ℕ) (other_number : U → ℕ) (makes
   pub leaf_added : (x : T) (at : ℕ) → n ≡ Leaf x → at ≡ number x →
       AddsTree (IsFilled (λ (x : ℕ) (y : U) (z : V). makes (max x (other_number y)) z) spaces.asked at part) old new →
       AddsTree (IsJoinedIn answers spaces n m) old new
-  -- p: the tree that was added, how its list stands in the new one, and what is known of it, which carries over
-  leaf_added x at leaf value p = (
-    p.0,
-    p.1,
+  -- `added`: the tree that was added, how its list stands in the new one, and what is known of it, which carries over
+  leaf_added x at leaf value added = (
+    added.0,
+    added.1,
     record {
-      made = both_whole answers spaces n m part p.0 is.same (made_in_both answers spaces n part p.0
-          (first_leaf number other_number makes spaces.asked n part p.0 x at leaf value p.2.made));
-      fit = p.2.fit;
-      pass = λ test own other. p.2.pass test (is.pass test other);
+      made = both_whole answers spaces n m part added.0 is.same (made_in_both answers spaces n part added.0
+          (first_leaf number other_number makes spaces.asked n part added.0 x at leaf value added.2.made));
+      fit = added.2.fit;
+      pass = λ test own other. added.2.pass test (is.pass test other);
     },
   )
 
@@ -149,14 +152,14 @@ module _ {T U V : Type 0} (answers : T → U → V → Type 0) (spaces : SpacePa
   pub added_below : (inner : SpacePair) → IsInner spaces (λ s. number_of s v ≤ cut) inner →
       AddsTree (IsJoinedIn answers inner x part) old new →
       AddsTree (IsJoinedIn answers spaces n m) old new
-  -- p: the tree that was added, how its list stands in the new one, and what is known of it, which carries over
-  added_below inner way p = (
-    p.0,
-    p.1,
+  -- `added`: the tree that was added, how its list stands in the new one, and what is known of it, which carries over
+  added_below inner way added = (
+    added.0,
+    added.1,
     record {
-      made = made_all_below answers spaces inner v cut x y n whole m part part_is.same p.0 way p.2.made;
-      fit = subst (λ (space : Space). IsFit space p.0) way.asked p.2.fit;
-      pass = λ test own other. p.2.pass test (passes_parts test v cut x y n whole own).1 (part_is.pass test other);
+      made = made_all_below answers spaces inner v cut x y n whole m part part_is.same added.0 way added.2.made;
+      fit = subst (λ (space : Space). IsFit space added.0) way.asked added.2.fit;
+      pass = λ test own other. added.2.pass test (passes_parts test v cut x y n whole own).1 (part_is.pass test other);
     },
   )
 
@@ -164,14 +167,14 @@ module _ {T U V : Type 0} (answers : T → U → V → Type 0) (spaces : SpacePa
   pub added_above : (inner : SpacePair) → IsInner spaces (λ s. cut < number_of s v) inner →
       AddsTree (IsJoinedIn answers inner y part) old new →
       AddsTree (IsJoinedIn answers spaces n m) old new
-  -- p: the tree that was added, how its list stands in the new one, and what is known of it, which carries over
-  added_above inner way p = (
-    p.0,
-    p.1,
+  -- `added`: the tree that was added, how its list stands in the new one, and what is known of it, which carries over
+  added_above inner way added = (
+    added.0,
+    added.1,
     record {
-      made = made_all_above answers spaces inner v cut x y n whole m part part_is.same p.0 way p.2.made;
-      fit = subst (λ (space : Space). IsFit space p.0) way.asked p.2.fit;
-      pass = λ test own other. p.2.pass test (passes_parts test v cut x y n whole own).2 (part_is.pass test other);
+      made = made_all_above answers spaces inner v cut x y n whole m part part_is.same added.0 way added.2.made;
+      fit = subst (λ (space : Space). IsFit space added.0) way.asked added.2.fit;
+      pass = λ test own other. added.2.pass test (passes_parts test v cut x y n whole own).2 (part_is.pass test other);
     },
   )
 
@@ -187,8 +190,8 @@ module _ {T U V : Type 0} (answers : T → U → V → Type 0) (spaces : SpacePa
     pub added_fork : AddsTree (IsJoinedIn answers shut x part) old lower →
         AddsTree (IsJoinedIn answers upper y part) lower higher →
         AddsTree (IsJoinedIn answers spaces n m) old new
-    -- fork: the tree that takes the place of both; its values are those of the sides (`made`), it fits the space asked for,
-    -- as the sides fit their parts of it (`fit`), and its variables are v and those of the sides (`pass`)
+    -- fork: the tree that takes the place of both; its values are those of the sides (`made`), it fits the space asked
+    -- for, as the sides fit their parts of it (`fit`), and its variables are v and those of the sides (`pass`)
     added_fork one two =
         let fork =
         forks old one.0 two.0 (split_of start middle old lower higher one.0 two.0 one.1 two.1 first second) in (
@@ -230,18 +233,18 @@ module _ {T U V : Type 0} (number : T → ℕ) (other_number : U → ℕ) (makes
       IsFit space n →
       AddsTree (IsMapped (λ (x : T) (z : V). makes (max at (number x)) z) n) old new →
       AddsTree (IsJoined both_answers space n m) old new
-  -- p: the tree that was added, how its list stands in the new one, and what is known of it, which carries over
-  first_alone at same fits p = (
-    p.0,
-    p.1,
+  -- `added`: the tree that was added, how its list stands in the new one, and what is known of it, which carries over
+  first_alone at same fits added = (
+    added.0,
+    added.1,
     record {
       made = record {
-        value = λ s d. subst (λ (k : ℕ). makes k (value_at p.0 s)) (same s) (p.2.made.value s tt);
-        lows = λ s v d. omega (arith, p.2.made.lows s v tt);
-        highs = λ k s v d. omega (arith, p.2.made.highs k s v tt);
+        value = λ s inside. subst (λ (k : ℕ). makes k (value_at added.0 s)) (same s) (added.2.made.value s tt);
+        lows = λ s v inside. omega (arith, added.2.made.lows s v tt);
+        highs = λ k s v inside. omega (arith, added.2.made.highs k s v tt);
       };
-      fit = p.2.fit space fits;
-      pass = λ test own other. p.2.pass test own;
+      fit = added.2.fit space fits;
+      pass = λ test own other. added.2.pass test own;
     },
   )
 
@@ -251,18 +254,18 @@ module _ {T U V : Type 0} (number : T → ℕ) (other_number : U → ℕ) (makes
       IsFit space m →
       AddsTree (IsMapped (λ (y : U) (z : V). makes (max at (other_number y)) z) m) old new →
       AddsTree (IsJoined both_answers space n m) old new
-  -- p: the tree that was added, how its list stands in the new one, and what is known of it, which carries over
-  second_alone at same fits p = (
-    p.0,
-    p.1,
+  -- `added`: the tree that was added, how its list stands in the new one, and what is known of it, which carries over
+  second_alone at same fits added = (
+    added.0,
+    added.1,
     record {
       made = record {
-        value = λ s d. subst (λ (k : ℕ). makes k (value_at p.0 s)) (same s) (p.2.made.value s tt);
-        lows = λ s v d. omega (arith, p.2.made.lows s v tt);
-        highs = λ k s v d. omega (arith, p.2.made.highs k s v tt);
+        value = λ s inside. subst (λ (k : ℕ). makes k (value_at added.0 s)) (same s) (added.2.made.value s tt);
+        lows = λ s v inside. omega (arith, added.2.made.lows s v tt);
+        highs = λ k s v inside. omega (arith, added.2.made.highs k s v tt);
       };
-      fit = p.2.fit space fits;
-      pass = λ test own other. p.2.pass test other;
+      fit = added.2.fit space fits;
+      pass = λ test own other. added.2.pass test other;
     },
   )
 
@@ -295,14 +298,14 @@ module _ {T U V : Type 0} (number : T → ℕ) (other_number : U → ℕ) (makes
   -- answers made with one space both asked for and walked are answers in that space
   pub joined_added : AddsTree (IsJoinedIn both_answers (record { asked = space; walked = space }) n m) old new →
       AddsTree (IsJoined both_answers space n m) old new
-  -- p: the tree that was added, how its list stands in the new one, and what is known of it, which carries over
-  joined_added p = (
-    p.0,
-    p.1,
+  -- `added`: the tree that was added, how its list stands in the new one, and what is known of it, which carries over
+  joined_added added = (
+    added.0,
+    added.1,
     record {
       made = made_narrower (IsInBothSpaces (record { asked = space; walked = space }))
-          (IsInSpace space) _ _ _ p.0 p.2.made (λ s d. (d, d));
-      fit = p.2.fit;
-      pass = p.2.pass;
+          (IsInSpace space) _ _ _ added.0 added.2.made (λ s inside. (inside, inside));
+      fit = added.2.fit;
+      pass = added.2.pass;
     },
   )

@@ -17,8 +17,8 @@ module _ {T : Type 0} (number : T → ℕ) where
   -- by induction on the tree: a leaf, then a fork by its two sides, and by whether `cut` is below `number_of s v`
   least_under (Leaf x) s = omega arith
   least_under (Fork v cut below above) s = elim (cases_lt cut (number_of s v)) [
-    | inl h ↦ omega (arith, least_under above s, ap number (value_above v cut below above s h))
-    | inr h ↦ omega (arith, least_under below s, ap number (value_below v cut below above s h))
+    | inl less ↦ omega (arith, least_under above s, ap number (value_above v cut below above s less))
+    | inr not_less ↦ omega (arith, least_under below s, ap number (value_below v cut below above s not_less))
   ]
 
   -- no scenario has a greater number than the greatest leaf
@@ -26,8 +26,8 @@ module _ {T : Type 0} (number : T → ℕ) where
   -- by induction on the tree: a leaf, then a fork by its two sides, and by whether `cut` is below `number_of s v`
   most_over (Leaf x) s = omega arith
   most_over (Fork v cut below above) s = elim (cases_lt cut (number_of s v)) [
-    | inl h ↦ omega (arith, most_over above s, ap number (value_above v cut below above s h))
-    | inr h ↦ omega (arith, most_over below s, ap number (value_below v cut below above s h))
+    | inl less ↦ omega (arith, most_over above s, ap number (value_above v cut below above s less))
+    | inr not_less ↦ omega (arith, most_over below s, ap number (value_below v cut below above s not_less))
   ]
 
 -- given: two trees, and a function of the greater of their numbers
@@ -37,21 +37,24 @@ module _ {T U V : Type 0} (number : T → ℕ) (other_number : U → ℕ) (makes
   pub first_greater : IsAtLeast number other_number a b → IsFillOf (λ x y z. makes (max x (number y)) z) space 0 a r →
       IsJoinOf (λ x y z. makes (max (number x) (other_number y)) z) space a b r
   first_greater least made = made_weaker (IsInSpace space) _ _ _ _ _ _ r made
-      (λ s z d e. subst (λ (n : ℕ). makes n z) (omega (arith, least s s)) e) (λ s u d. omega arith)
-      (λ k s u d. omega arith)
+      (λ s z inside answered. subst (λ (n : ℕ). makes n z) (omega (arith, least s s)) answered)
+      (λ s u inside. omega arith)
+      (λ k s u inside. omega arith)
 
   -- if the second tree is at least the first everywhere, its numbers are the greater ones
   pub second_greater : IsAtLeast other_number number b a →
       IsFillOf (λ x y z. makes (max x (other_number y)) z) space 0 b r →
       IsJoinOf (λ x y z. makes (max (number x) (other_number y)) z) space a b r
   second_greater least made = made_weaker (IsInSpace space) _ _ _ _ _ _ r made
-      (λ s z d e. subst (λ (n : ℕ). makes n z) (omega (arith, least s s)) e) (λ s u d. omega arith)
-      (λ k s u d. omega arith)
+      (λ s z inside answered. subst (λ (n : ℕ). makes n z) (omega (arith, least s s)) answered)
+      (λ s u inside. omega arith)
+      (λ k s u inside. omega arith)
 
   -- if the first tree is one value, the answers made of that value and the second tree are those of both trees
   pub first_leaf : (x : T) (n : ℕ) → a ≡ Leaf x → n ≡ number x →
       IsFillOf (λ x y z. makes (max x (other_number y)) z) space n b r →
       IsJoinOf (λ x y z. makes (max (number x) (other_number y)) z) space a b r
   first_leaf x n is at made = made_weaker (IsInSpace space) _ _ _ _ _ _ r made
-      (λ s z d e. subst (λ (m : ℕ). makes m z) (omega (arith, at, ap (λ (c : TreeNode T). number (value_at c s)) is)) e)
-      (λ s u d. omega arith) (λ k s u d. omega arith)
+      (λ s z inside answered. subst (λ (m : ℕ). makes m z)
+      (omega (arith, at, ap (λ (c : TreeNode T). number (value_at c s)) is)) answered)
+      (λ s u inside. omega arith) (λ k s u inside. omega arith)

@@ -78,9 +78,9 @@ module _ {T U : Type 0} (number : T → ℕ) (other_number : U → ℕ) (own : L
   where
     -- if each number of one list is at least the greatest of another, the first tree is at least the second
     pub at_least_is : are_from number (most_from other_number 0 other) own ≡ true → IsAtLeast number other_number n m
-    at_least_is h =
+    at_least_is passes =
         let most : ℕ = most_from other_number 0 other in
-        let under : nat_le most (least_leaf number n) ≡ true = sym (from_is number most own n are) ∙ h in
+        let under : nat_le most (least_leaf number n) ≡ true = sym (from_is number most own n are) ∙ passes in
         λ s t. omega (
           arith,
           most_is other_number other m others,

@@ -61,22 +61,22 @@ module _ (share : ShareState) (end : TreeState (Option ℕ)) (free asked both : 
     -- the value of the last tree is the first free slot after the end
     slot_value : z.1 ≡ slot_from share y.1 x.1
     slot_value =
-        let a = asked_path in
-        let b = both_path in
-        third.value s x b.0 z few on_x b.1 on_z
-        ∙ ap (λ (n : ℕ). slot_if n x.1) (second.value s a.0 y b.0 few_asked a.1 on_y b.1
-        ∙ ap (λ (n : ℕ). max n y.1) (first.value s x a.0 few on_x a.1))
+        let at_asked = asked_path in
+        let at_both = both_path in
+        third.value s x at_both.0 z few on_x at_both.1 on_z
+        ∙ ap (λ (n : ℕ). slot_if n x.1) (second.value s at_asked.0 y at_both.0 few_asked at_asked.1 on_y at_both.1
+        ∙ ap (λ (n : ℕ). max n y.1) (first.value s x at_asked.0 few on_x at_asked.1))
         ∙ slot_steps share y.1 x.1
 
     -- its path says as much as those of the end and of the free slots
     slot_ranges : IsAsWideAsBoth end.faults z.0 x.0 y.0
     slot_ranges =
-        let a = asked_path in
-        let b = both_path in
-        wide_through end.faults x.0 y.0 a.0.0 b.0.0 z.0 (first.ranges s x a.0 few on_x a.1)
-        (subst (λ (n : ℕ). IsAsWideAsBoth n b.0.0 a.0.0 y.0) first.faults
-        (second.ranges s a.0 y b.0 few_asked a.1 on_y b.1))
-        (third.ranges s x b.0 z few on_x b.1 on_z)
+        let at_asked = asked_path in
+        let at_both = both_path in
+        wide_through end.faults x.0 y.0 at_asked.0.0 at_both.0.0 z.0 (first.ranges s x at_asked.0 few on_x at_asked.1)
+        (subst (λ (n : ℕ). IsAsWideAsBoth n at_both.0.0 at_asked.0.0 y.0) first.faults
+        (second.ranges s at_asked.0 y at_both.0 few_asked at_asked.1 on_y at_both.1))
+        (third.ranges s x at_both.0 z few on_x at_both.1 on_z)
 
   -- the three steps together are the first free slots
   pub slots_joined : IsJoin (λ x y z. z ≡ slot_from share y x) end free r

@@ -42,7 +42,7 @@ module _ {T U V : Type 0} (answers : T → U → V → Type 0) (none : V) (space
   pub where_off : (n : TreeNode Bool) → n ≡ Leaf false →
       IsJoinWhereOf answers none (IsInBothSpaces spaces) n a b (Leaf none)
   where_off n is = two_leaf_of fact low high (IsInBothSpaces spaces) false n is (Leaf none)
-      (record { value = λ s d. refl; lows = λ s u d. omega arith; highs = λ k s u d. omega arith })
+      (record { value = λ s inside. refl; lows = λ s u inside. omega arith; highs = λ k s u inside. omega arith })
 
   -- given: the chooser n is a fork, and r is the tree that is made
   module _ (v cut : ℕ) (below above n : TreeNode Bool) (is : n ≡ Fork v cut below above) (r : TreeNode V) where
@@ -51,14 +51,14 @@ module _ {T U V : Type 0} (answers : T → U → V → Type 0) (none : V) (space
         ((s : Scenario) → IsInSpace spaces.asked s → number_of s v ≤ cut)
         → IsJoinWhereOf answers none (IsInBothSpaces spaces) n a b r
     where_below made only =
-        two_below_of fact low high (IsInBothSpaces spaces) v cut below above n is r made (λ s d. only s d.0)
+        two_below_of fact low high (IsInBothSpaces spaces) v cut below above n is r made (λ s inside. only s inside.0)
 
     -- if all scenarios asked for go above the chooser's fork, a result for its side above is one for the whole chooser
     pub where_above : IsJoinWhereOf answers none (IsInBothSpaces spaces) above a b r →
         ((s : Scenario) → IsInSpace spaces.asked s → cut < number_of s v)
         → IsJoinWhereOf answers none (IsInBothSpaces spaces) n a b r
     where_above made only =
-        two_above_of fact low high (IsInBothSpaces spaces) v cut below above n is r made (λ s d. only s d.0)
+        two_above_of fact low high (IsInBothSpaces spaces) v cut below above n is r made (λ s inside. only s inside.0)
 
     -- a fork of the results for both sides of the chooser is the result for the chooser
     pub where_fork : (shut upper : SpacePair) (lo hi : TreeNode V) →
@@ -77,88 +77,102 @@ module _ {T U V : Type 0} (k : ℕ) (domain : Scenario → Type 0) (all : (s : S
     (answers : T → U → V → Type 0) (none : V) (chooser : TreeNode Bool)
     (a : TreeNode T)
     (b : TreeNode U) (r : TreeNode V) where
-  -- The paths of the result have the answers in the scenarios in which the chooser is true, and the one value in all others.
+  -- The paths of the result have the answers in the scenarios in which the chooser is true, and the one value in all
+  -- others.
   pub where_paths : IsGood k chooser → IsGood k a → IsGood k b → IsGood k r →
       IsJoinWhereOf answers none domain chooser a b r →
       IsJoinWhere answers none (state k chooser) (state k a) (state k b) (state k r)
-  -- By `found` each path has the value and the ranges that its scenario finds in the tree, of which `made` speaks. fc, fx, fy
-  -- and fz are what is found for the paths c, x, y and z of the chooser, the two trees and the result.
+  -- By `found` each path has the value and the ranges that its scenario finds in the tree, of which `made` speaks.
+  -- `in_chooser`, `in_a`, `in_b` and `in_result` are what is found for the paths c, x, y and z of the chooser, the two
+  -- trees and the result.
   where_paths good_c good_a good_b good_r made = record {
     faults = refl;
     -- the values on the paths are those that the trees have in the scenario, so `made` answers for them
     on = λ s c x y z few on_c is on_x on_y on_z.
-        let fc = found k chooser good_c s c on_c in
-        let fx = found k a good_a s x on_x in
-        let fy = found k b good_b s y on_y in
-        let fz = found k r good_r s z on_z in
-        subst (λ w. answers x.1 y.1 w) (sym fz.value) (subst (λ w. answers x.1 w (value_at r s)) (sym fy.value)
-        (subst (λ w. answers w (value_at b s) (value_at r s)) (sym fx.value)
+        let in_chooser = found k chooser good_c s c on_c in
+        let in_a = found k a good_a s x on_x in
+        let in_b = found k b good_b s y on_y in
+        let in_result = found k r good_r s z on_z in
+        subst (λ w. answers x.1 y.1 w) (sym in_result.value) (subst (λ w. answers x.1 w (value_at r s)) (sym in_b.value)
+        (subst (λ w. answers w (value_at b s) (value_at r s)) (sym in_a.value)
         (subst
         (λ (w : Bool). HoldsIfChosen w (answers (value_at a s) (value_at b s) (value_at r s)) none (value_at r s))
-        (sym fc.value ∙ is) (made.value s (all s few)))));
+        (sym in_chooser.value ∙ is) (made.value s (all s few)))));
     -- and so are the ranges: where the chooser is true, those of all three trees meet
     on_ranges = λ s c x y z few on_c is on_x on_y on_z.
-        let fc = found k chooser good_c s c on_c in
-        let fx = found k a good_a s x on_x in
-        let fy = found k b good_b s y on_y in
-        let fz = found k r good_r s z on_z in
+        let in_chooser = found k chooser good_c s c on_c in
+        let in_a = found k a good_a s x on_x in
+        let in_b = found k b good_b s y on_y in
+        let in_result = found k r good_r s z on_z in
         record {
           low = λ v. omega (
             arith,
-            fc.low v,
-            fx.low v,
-            fy.low v,
-            fz.low v,
+            in_chooser.low v,
+            in_a.low v,
+            in_b.low v,
+            in_result.low v,
             made.lows s v (all s few),
-            low_on s (sym fc.value ∙ is) v,
+            low_on s (sym in_chooser.value ∙ is) v,
           );
           high = λ v. omega (
             arith,
-            fc.high v,
-            fx.high v,
-            fy.high v,
-            fz.high v,
+            in_chooser.high v,
+            in_a.high v,
+            in_b.high v,
+            in_result.high v,
             made.highs k s v (all s few),
-            high_on s (sym fc.value ∙ is) v,
+            high_on s (sym in_chooser.value ∙ is) v,
           );
         };
     -- where the chooser is false, only the result and the chooser are looked at
     off = λ s c z few on_c is on_z.
-        let fc = found k chooser good_c s c on_c in
-        let fz = found k r good_r s z on_z in
-        fz.value ∙ subst
+        let in_chooser = found k chooser good_c s c on_c in
+        let in_result = found k r good_r s z on_z in
+        in_result.value ∙ subst
         (λ (w : Bool). HoldsIfChosen w (answers (value_at a s) (value_at b s) (value_at r s)) none (value_at r s))
-        (sym fc.value ∙ is) (made.value s (all s few));
+        (sym in_chooser.value ∙ is) (made.value s (all s few));
     off_ranges = λ s c z few on_c is on_z.
-        let fc = found k chooser good_c s c on_c in
-        let fz = found k r good_r s z on_z in
+        let in_chooser = found k chooser good_c s c on_c in
+        let in_result = found k r good_r s z on_z in
         record {
-          low = λ v. omega (arith, fc.low v, fz.low v, made.lows s v (all s few), low_off s (sym fc.value ∙ is) v);
+          low = λ v. omega (
+            arith,
+            in_chooser.low v,
+            in_result.low v,
+            made.lows s v (all s few),
+            low_off s (sym in_chooser.value ∙ is) v,
+          );
           high =
-              λ v. omega (arith, fc.high v, fz.high v, made.highs k s v (all s few), high_off s (sym fc.value ∙ is) v);
+              λ v. omega (
+                arith,
+                in_chooser.high v,
+                in_result.high v,
+                made.highs k s v (all s few),
+                high_off s (sym in_chooser.value ∙ is) v,
+              );
         };
   }
     where
-      -- where the chooser is true, the lows are those of both
+      -- where the chooser is true, each low is the greater of the two trees' lows
       low_on : (s : Scenario) → value_at chooser s ≡ true → (v : ℕ) →
           (if value_at chooser s then max (low_at a s v) (low_at b s v) else 0) ≡ max (low_at a s v) (low_at b s v)
-      low_on s e v = cond-true (value_at chooser s) _ _ e
+      low_on s chosen v = cond-true (value_at chooser s) _ _ chosen
 
-      -- where the chooser is true, the highs are those of both
+      -- where the chooser is true, each high is the lesser of the two trees' highs
       high_on : (s : Scenario) → value_at chooser s ≡ true → (v : ℕ) →
           (if value_at chooser s then min (high_at k a s v) (high_at k b s v) else top k v)
           ≡ min (high_at k a s v) (high_at k b s v)
-      high_on s e v = cond-true (value_at chooser s) _ _ e
+      high_on s chosen v = cond-true (value_at chooser s) _ _ chosen
 
-      -- where it is false, the lows are 0
+      -- where the chooser is false, the lows are 0
       low_off : (s : Scenario) → value_at chooser s ≡ false → (v : ℕ) →
           (if value_at chooser s then max (low_at a s v) (low_at b s v) else 0) ≡ 0
-      low_off s e v = cond-false (value_at chooser s) _ _ e
+      low_off s unchosen v = cond-false (value_at chooser s) _ _ unchosen
 
       -- where the chooser is false, the highs are the tops
       high_off : (s : Scenario) → value_at chooser s ≡ false → (v : ℕ) →
           (if value_at chooser s then min (high_at k a s v) (high_at k b s v) else top k v) ≡ top k v
-      high_off s e v = cond-false (value_at chooser s) _ _ e
+      high_off s unchosen v = cond-false (value_at chooser s) _ _ unchosen
 
 -- given: a chooser and two trees, and what callers see of them
 module _ {T U V : Type 0} (chooser : TreeNode Bool) (a : TreeNode T) (b : TreeNode U) (r : TreeNode V)

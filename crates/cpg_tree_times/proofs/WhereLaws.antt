@@ -24,14 +24,14 @@ module _ {T U V : Type 0} (answers : T → U → V → Type 0) (none : V) (space
   -- if the chooser is true, what is added of the two trees is the result
   pub where_value_on : items ≡ flat (Leaf true) → AddsTree (IsJoinedIn answers spaces n m) old new →
       AddsTree (IsJoinedWhere answers none spaces c n m) old new
-  -- p: the tree that was added, how its list stands in the new one, and what is known of it, which carries over
-  where_value_on is p = (
-    p.0,
-    p.1,
+  -- `added`: the tree that was added, how its list stands in the new one, and what is known of it, which carries over
+  where_value_on is added = (
+    added.0,
+    added.1,
     record {
-      made = where_on answers none spaces n m c (flat-same c (Leaf true) (sym are ∙ is)) p.0 p.2.made;
-      fit = p.2.fit;
-      pass = λ test chooser own other. p.2.pass test own other;
+      made = where_on answers none spaces n m c (flat-same c (Leaf true) (sym are ∙ is)) added.0 added.2.made;
+      fit = added.2.fit;
+      pass = λ test chooser own other. added.2.pass test own other;
     },
   )
 
@@ -58,14 +58,14 @@ module _ {T U V : Type 0} (answers : T → U → V → Type 0) (none : V) (space
     pub where_side_below : ((s : Scenario) → IsInSpace spaces.asked s → number_of s v ≤ cut) →
         AddsTree (IsJoinedWhere answers none spaces x n m) old new
         → AddsTree (IsJoinedWhere answers none spaces c n m) old new
-    -- p: the tree that was added, how its list stands in the new one, and what is known of it, which carries over
-    where_side_below only p = (
-      p.0,
-      p.1,
+    -- `added`: the tree that was added, how its list stands in the new one, and what is known of it, which carries over
+    where_side_below only added = (
+      added.0,
+      added.1,
       record {
-        made = where_below answers none spaces n m v cut x y c fork_is p.0 p.2.made only;
-        fit = p.2.fit;
-        pass = λ test chooser own other. p.2.pass test (passes_parts test v cut x y c fork_is chooser).1 own other;
+        made = where_below answers none spaces n m v cut x y c fork_is added.0 added.2.made only;
+        fit = added.2.fit;
+        pass = λ test chooser own other. added.2.pass test (passes_parts test v cut x y c fork_is chooser).1 own other;
       },
     )
 
@@ -73,14 +73,14 @@ module _ {T U V : Type 0} (answers : T → U → V → Type 0) (none : V) (space
     pub where_side_above : ((s : Scenario) → IsInSpace spaces.asked s → cut < number_of s v) →
         AddsTree (IsJoinedWhere answers none spaces y n m) old new
         → AddsTree (IsJoinedWhere answers none spaces c n m) old new
-    -- p: the tree that was added, how its list stands in the new one, and what is known of it, which carries over
-    where_side_above only p = (
-      p.0,
-      p.1,
+    -- `added`: the tree that was added, how its list stands in the new one, and what is known of it, which carries over
+    where_side_above only added = (
+      added.0,
+      added.1,
       record {
-        made = where_above answers none spaces n m v cut x y c fork_is p.0 p.2.made only;
-        fit = p.2.fit;
-        pass = λ test chooser own other. p.2.pass test (passes_parts test v cut x y c fork_is chooser).2 own other;
+        made = where_above answers none spaces n m v cut x y c fork_is added.0 added.2.made only;
+        fit = added.2.fit;
+        pass = λ test chooser own other. added.2.pass test (passes_parts test v cut x y c fork_is chooser).2 own other;
       },
     )
 
@@ -97,8 +97,8 @@ module _ {T U V : Type 0} (answers : T → U → V → Type 0) (none : V) (space
       pub where_both_sides : AddsTree (IsJoinedWhere answers none shut x n m) old lower →
           AddsTree (IsJoinedWhere answers none upper y n m) lower higher
           → AddsTree (IsJoinedWhere answers none spaces c n m) old new
-      -- fork: the tree that takes the place of both; its values are those of the sides (`made`), it fits the space asked for,
-      -- as the sides fit their parts of it (`fit`), and its variables are v and those of the sides (`pass`)
+      -- fork: the tree that takes the place of both; its values are those of the sides (`made`), it fits the space
+      -- asked for, as the sides fit their parts of it (`fit`), and its variables are v and those of the sides (`pass`)
       where_both_sides one two =
           let fork =
           forks old one.0 two.0 (split_of start middle old lower higher one.0 two.0 one.1 two.1 first second) in (

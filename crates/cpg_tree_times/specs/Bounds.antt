@@ -22,8 +22,8 @@ bounds_in number (Fork v cut below above) = bounds_in number below ++ bounds_in 
 abbrev pub IsBounded : {T : Type 0} → (T → ℕ) → List (TreeItem T) → List Span → Type 0
 IsBounded {T} number items bounds = (n : TreeNode T) × (items ≡ flat n) × (bounds ≡ bounds_in number n)
 
--- The spans of a fork are split into those of its sides: the first `forks` are those of the side below, then come those of
--- the side above, and last the fork's own, which belongs to neither.
+-- The spans of a fork are split into those of its sides: the first `forks` are those of the side below, then come those
+-- of the side above, and last the fork's own, which belongs to neither.
 abbrev pub AreSpansOfSides : List Span → ℕ → List Span → List Span → Type 0
 AreSpansOfSides bounds forks below above = (front back : List Span) (fork : Span) →
     bounds ≡ front ++ back ++ (fork ∷ []) → forks ≡ length front → (below ≡ front) × (above ≡ back)

@@ -13,7 +13,9 @@ use crate::asked::{SpacePair, Way};
 use crate::bounds::{BoundedTree, is_at_least, push_bounds, sides, span_of};
 use cpg_base::OutOfMemory;
 use cpg_tree::fork::fork;
-use cpg_tree::{AsIs, Later, Reading, Space, Top, Tree, TreeItem, fill_items, map_items, top_of};
+use cpg_tree::{
+    AsIs, Later, OptionalTime, Reading, Space, Top, Tree, TreeItem, fill_items, map_items, top_of,
+};
 
 /// How the leaves of two trees are read as numbers, and what is made of the greater one.
 #[derive(Clone, Copy)]
@@ -326,7 +328,7 @@ pub fn max_of(tree: &Tree<u64>, other: &Tree<u64>) -> Result<Tree<u64>, OutOfMem
 /// delay added (`time_later`). A scenario in which `other` has no number counts as 0 before the delay is added.
 pub fn max_later(
     tree: &Tree<u64>,
-    other: &Tree<Option<u64>>,
+    other: &Tree<OptionalTime>,
     delay: u64,
 ) -> Result<Tree<u64>, OutOfMemory>
     requires same { tree.now.faults ≡ other.now.faults }

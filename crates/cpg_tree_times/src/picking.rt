@@ -10,7 +10,9 @@ ghost use Rattle.cpg_tree.specs.TreeNode.{TreeNode};
 use crate::greater::at_least;
 use cpg_base::OutOfMemory;
 use cpg_tree::fork::fork;
-use cpg_tree::{Later, Reading, Space, Top, Tree, TreeItem, part_in, top_of, within_items};
+use cpg_tree::{
+    Later, OptionalTime, Reading, Space, Top, Tree, TreeItem, part_in, top_of, within_items,
+};
 
 /// Adds the tree of the numbers of `on`, as they are read, if the chooser, whose list is `items`, is true, and otherwise of
 /// `off`, for the scenarios of a space.
@@ -74,7 +76,7 @@ fn pick_read<T: Copy, R: Reading<T>>(
 /// the first with a delay added (`time_later`; no time counts as 0). Elsewhere it is the number of the second.
 pub fn pick_later(
     chooser: &Tree<bool>,
-    times: &Tree<Option<u64>>,
+    times: &Tree<OptionalTime>,
     delay: u64,
     no: &Tree<u64>,
 ) -> Result<Tree<u64>, OutOfMemory>

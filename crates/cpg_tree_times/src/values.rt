@@ -9,34 +9,34 @@ use crate::choosing::greater_of_where;
 use crate::greater::{greater_of, max_of};
 use cpg_base::OutOfMemory;
 use cpg_bus::Share;
-use cpg_tree::{AsIs, Later, Tree, time_later};
+use cpg_tree::{AsIs, Later, OptionalTime, Tree, time_later};
 
 /// From this time on no slot is looked for, since the next one might go past 64 bits. The ends of an admitted graph
 /// are below it.
 const LATE: u64 = 1 << 59;
 
 /// Returns the times of a tree later by a delay, as `time_later` adds it; a scenario without a time counts as time 0.
-pub fn later(tree: &Tree<Option<u64>>, delay: u64) -> Result<Tree<u64>, OutOfMemory>
+pub fn later(tree: &Tree<OptionalTime>, delay: u64) -> Result<Tree<u64>, OutOfMemory>
     ensures is { IfOk result (IsMap (λ x z. z ≡ time_later delay x) tree.now) }
     ensures each { IfOk result (λ t. HasOnePathEach t.faults t.paths) }
     ensures pass { IfOk result (λ t. (test : ℕ → Bool) → DoPathsPass test tree.now.paths → DoPathsPass test t.paths) }
 {
-    tree.map(&|time: Option<u64>| time_later(time, delay))
+    tree.map(&|time: OptionalTime| time_later(time.get(), delay))
 }
 
 /// Returns the times of a tree or a release, whichever is later, as starts in all scenarios.
-pub fn started(tree: &Tree<u64>, release: u64) -> Result<Tree<Option<u64>>, OutOfMemory>
+pub fn started(tree: &Tree<u64>, release: u64) -> Result<Tree<OptionalTime>, OutOfMemory>
     ensures is { IfOk result (λ t. IsMap (λ x z. z ≡ Some (max x release)) tree.now t) }
     ensures each { IfOk result (λ t. HasOnePathEach t.faults t.paths) }
     ensures pass { IfOk result (λ t. (test : ℕ → Bool) → DoPathsPass test tree.now.paths → DoPathsPass test t.paths) }
 {
-    tree.map(&|time: u64| Some(time.max(release)))
+    tree.map(&|time: u64| OptionalTime::of(Some(time.max(release))))
 }
 
 /// Returns in each scenario the later of two: the time of a tree (0 if it has none) with a delay added, and the number
 /// of another tree.
 pub fn later_or(
-    tree: &Tree<Option<u64>>,
+    tree: &Tree<OptionalTime>,
     delay: u64,
     other: &Tree<u64>,
 ) -> Result<Tree<u64>, OutOfMemory>
@@ -51,9 +51,9 @@ pub fn later_or(
 /// Returns in each scenario the later of two: the time of a tree with a delay added, and the time of another tree. A
 /// scenario without a time counts as time 0.
 pub fn later_of(
-    tree: &Tree<Option<u64>>,
+    tree: &Tree<OptionalTime>,
     delay: u64,
-    other: &Tree<Option<u64>>,
+    other: &Tree<OptionalTime>,
 ) -> Result<Tree<u64>, OutOfMemory>
     requires { tree.now.faults ≡ other.now.faults }
     ensures is { IfOk result (IsJoin (λ x y z. z ≡ max (time_later delay x) (time_later 0 y)) tree.now other.now) }
@@ -73,10 +73,10 @@ pub fn later_of(
 /// starts in all scenarios.
 pub fn started_or(
     tree: &Tree<u64>,
-    other: &Tree<Option<u64>>,
+    other: &Tree<OptionalTime>,
     delay: u64,
     release: u64,
-) -> Result<Tree<Option<u64>>, OutOfMemory>
+) -> Result<Tree<OptionalTime>, OutOfMemory>
     requires { tree.now.faults ≡ other.now.faults }
     ensures is { IfOk result (IsJoin (λ x y z. z ≡ Some (max (max x (time_later delay y)) release)) tree.now other.now) }
     ensures each { IfOk result (λ t. HasOnePathEach t.faults t.paths) }
@@ -87,18 +87,18 @@ pub fn started_or(
         &AsIs,
         other,
         &Later { delay },
-        &|number: u64| Some(number.max(release)),
+        &|number: u64| OptionalTime::of(Some(number.max(release))),
     )
 }
 
 /// Returns the times of a tree later by a delay, those of another one, or a release, whichever are later, as starts in
 /// all scenarios.
 pub fn started_of(
-    tree: &Tree<Option<u64>>,
+    tree: &Tree<OptionalTime>,
     delay: u64,
-    other: &Tree<Option<u64>>,
+    other: &Tree<OptionalTime>,
     release: u64,
-) -> Result<Tree<Option<u64>>, OutOfMemory>
+) -> Result<Tree<OptionalTime>, OutOfMemory>
     requires { tree.now.faults ≡ other.now.faults }
     ensures is { IfOk result (IsJoin (λ x y z. z ≡ Some (max (max (time_later delay x) (time_later 0 y)) release)) tree.now other.now) }
     ensures each { IfOk result (λ t. HasOnePathEach t.faults t.paths) }
@@ -109,7 +109,7 @@ pub fn started_of(
         &Later { delay },
         other,
         &Later { delay: 0 },
-        &|number: u64| Some(number.max(release)),
+        &|number: u64| OptionalTime::of(Some(number.max(release))),
     )
 }
 
@@ -117,10 +117,10 @@ pub fn started_of(
 pub fn started_or_where(
     active: &Tree<bool>,
     tree: &Tree<u64>,
-    other: &Tree<Option<u64>>,
+    other: &Tree<OptionalTime>,
     delay: u64,
     release: u64,
-) -> Result<Tree<Option<u64>>, OutOfMemory>
+) -> Result<Tree<OptionalTime>, OutOfMemory>
     requires first { active.now.faults ≡ tree.now.faults }
     requires second { active.now.faults ≡ other.now.faults }
     ensures is { IfOk result (IsJoinWhere (λ x y z. z ≡ Some (max (max x (time_later delay y)) release)) None active.now tree.now other.now) }
@@ -134,19 +134,19 @@ pub fn started_or_where(
         &AsIs,
         other,
         &Later { delay },
-        &|number: u64| Some(number.max(release)),
-        None,
+        &|number: u64| OptionalTime::of(Some(number.max(release))),
+        OptionalTime::of(None),
     )
 }
 
 /// Returns the starts that `started_of` has where a tree is true, and no start elsewhere.
 pub fn started_of_where(
     active: &Tree<bool>,
-    tree: &Tree<Option<u64>>,
+    tree: &Tree<OptionalTime>,
     delay: u64,
-    other: &Tree<Option<u64>>,
+    other: &Tree<OptionalTime>,
     release: u64,
-) -> Result<Tree<Option<u64>>, OutOfMemory>
+) -> Result<Tree<OptionalTime>, OutOfMemory>
     requires first { active.now.faults ≡ tree.now.faults }
     requires second { active.now.faults ≡ other.now.faults }
     ensures is { IfOk result (IsJoinWhere (λ x y z. z ≡ Some (max (max (time_later delay x) (time_later 0 y)) release)) None active.now tree.now other.now) }
@@ -160,8 +160,8 @@ pub fn started_of_where(
         &Later { delay },
         other,
         &Later { delay: 0 },
-        &|number: u64| Some(number.max(release)),
-        None,
+        &|number: u64| OptionalTime::of(Some(number.max(release))),
+        OptionalTime::of(None),
     )
 }
 
@@ -189,12 +189,12 @@ fn time_if(is: bool, time: u64) -> Option<u64>
 }
 
 /// Returns a tree that has one time wherever the given tree is true, and no time elsewhere.
-pub fn fixed(tree: &Tree<bool>, time: u64) -> Result<Tree<Option<u64>>, OutOfMemory>
+pub fn fixed(tree: &Tree<bool>, time: u64) -> Result<Tree<OptionalTime>, OutOfMemory>
     ensures is { IfOk result (IsMap (λ x z. z ≡ time_if time x) tree.now) }
     ensures each { IfOk result (λ t. HasOnePathEach t.faults t.paths) }
     ensures pass { IfOk result (λ t. (test : ℕ → Bool) → DoPathsPass test tree.now.paths → DoPathsPass test t.paths) }
 {
-    tree.map(&|is: bool| time_if(is, time))
+    tree.map(&|is: bool| OptionalTime::of(time_if(is, time)))
 }
 
 /// Returns the end of an execution that starts at this time and has this many faults, at most `u64::MAX`; `None` if it
@@ -213,10 +213,10 @@ fn ended(start: Option<u64>, durations: &[u64], faults: u8) -> Option<u64>
 
 /// Returns the ends of executions that start at the times of a tree, if one with this number of faults lasts that long.
 pub fn ends(
-    start: &Tree<Option<u64>>,
+    start: &Tree<OptionalTime>,
     faults: &Tree<u8>,
     durations: &[u64],
-) -> Result<Tree<Option<u64>>, OutOfMemory>
+) -> Result<Tree<OptionalTime>, OutOfMemory>
     requires { start.now.faults ≡ faults.now.faults }
     ensures is { IfOk result (IsJoin (λ x n z. z ≡ ended durations.now n x) start.now faults.now) }
     ensures each { IfOk result (λ t. HasOnePathEach t.faults t.paths) }
@@ -224,7 +224,9 @@ pub fn ends(
 {
     start.join_with(
         faults,
-        &|start: Option<u64>, faults: u8| { ended(start, durations, faults) },
+        &|start: OptionalTime, faults: u8| {
+            OptionalTime::of(ended(start.get(), durations, faults))
+        },
     )
 }
 
@@ -254,16 +256,16 @@ fn slot_if(time: Option<u64>, slot: u64) -> Option<u64>
 
 /// Returns a tree with the first slot at the time of `end` or later, and 0 where there is no time or it is `LATE` or
 /// later.
-fn next_slots(share: Share, end: &Tree<Option<u64>>) -> Result<Tree<u64>, OutOfMemory>
+fn next_slots(share: Share, end: &Tree<OptionalTime>) -> Result<Tree<u64>, OutOfMemory>
     ensures is { IfOk result (IsMap (λ x z. z ≡ slot_at share x) end.now) }
     ensures each { IfOk result (λ t. HasOnePathEach t.faults t.paths) }
     ensures pass { IfOk result (λ t. (test : ℕ → Bool) → DoPathsPass test end.now.paths → DoPathsPass test t.paths) }
 {
-    end.map(&|time: Option<u64>| slot_at(share, time))
+    end.map(&|time: OptionalTime| slot_at(share, time.get()))
 }
 
 /// Returns a tree with the slot of `slots` where `end` has a time before `LATE`, and none elsewhere.
-fn asked(end: &Tree<Option<u64>>, slots: &Tree<u64>) -> Result<Tree<Option<u64>>, OutOfMemory>
+fn asked(end: &Tree<OptionalTime>, slots: &Tree<u64>) -> Result<Tree<OptionalTime>, OutOfMemory>
     requires { end.now.faults ≡ slots.now.faults }
     ensures is { IfOk result (IsJoin (λ x y z. z ≡ slot_if y x) end.now slots.now) }
     ensures each { IfOk result (λ t. HasOnePathEach t.faults t.paths) }
@@ -271,16 +273,16 @@ fn asked(end: &Tree<Option<u64>>, slots: &Tree<u64>) -> Result<Tree<Option<u64>>
 {
     end.join_with(
         slots,
-        &|time: Option<u64>, slot: u64| { slot_if(time, slot) },
+        &|time: OptionalTime, slot: u64| { OptionalTime::of(slot_if(time.get(), slot)) },
     )
 }
 
 /// Returns the first slots at the times of a tree or later that are free.
 pub fn slots(
     share: Share,
-    end: &Tree<Option<u64>>,
+    end: &Tree<OptionalTime>,
     free: &Tree<u64>,
-) -> Result<Tree<Option<u64>>, OutOfMemory>
+) -> Result<Tree<OptionalTime>, OutOfMemory>
     requires { end.now.faults ≡ free.now.faults }
     ensures is { IfOk result (IsJoin (λ x y z. z ≡ slot_from share y x) end.now free.now) }
     ensures each { IfOk result (λ t. HasOnePathEach t.faults t.paths) }

@@ -13,13 +13,13 @@ returns-then-is_some c =
     let g = c.args.admitted.now.graph in
     let urgency = c.args.admitted.now.order in
     -- the graph is admitted, and its first order is topological
-    let a = c.first_order.ensures.admitted in
+    let admitted = c.first_order.ensures.admitted in
     let top : IsTopological g (first_order g urgency) =
     rw c.first_order.ensures.order at c.first_order.ensures.topological in
     let has_figures : HasFigures g (first_order g urgency) c.in_ok-first.first.excess c.in_ok-first.first.worst =
     rw c.first_order.ensures.order at c.in_ok-first.ensures in
     subst (IsTaken g urgency) (sym c.first.ensures)
-    (first_given g a.well_formed urgency a.topological top c.requires.narrow c.in_ok-first.first.excess
+    (first_given g admitted.well_formed urgency admitted.topological top c.requires.narrow c.in_ok-first.first.excess
     c.in_ok-first.first.worst has_figures
     (mapped_is_some _ c.given.result _ c.given.ensures.given (search rules)))
 
@@ -29,11 +29,11 @@ returns-in_default c =
     let g = c.args.admitted.now.graph in
     let urgency = c.args.admitted.now.order in
     -- the graph is admitted, and its first order is topological
-    let a = c.first_order.ensures.admitted in
+    let admitted = c.first_order.ensures.admitted in
     let top : IsTopological g (first_order g urgency) =
     rw c.first_order.ensures.order at c.first_order.ensures.topological in
     let has_figures : HasFigures g (first_order g urgency) c.in_ok-first.first.excess c.in_ok-first.first.worst =
     rw c.first_order.ensures.order at c.in_ok-first.ensures in
     subst (IsTaken g urgency) (sym c.first-in_default.ensures)
-    (first_many g a.well_formed urgency a.topological top c.requires.narrow c.in_ok-first.first.excess
+    (first_many g admitted.well_formed urgency admitted.topological top c.requires.narrow c.in_ok-first.first.excess
     c.in_ok-first.first.worst has_figures (rw c.in_default.is at c.in_ok-order.ensures.many))

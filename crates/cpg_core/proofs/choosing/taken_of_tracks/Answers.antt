@@ -14,11 +14,12 @@ returns-then-are_same c =
     let g = c.args.admitted.now.graph in
     let urgency = c.args.admitted.now.order in
     -- the graph is admitted, and its first order is topological
-    let a = c.first_order-first_order.ensures.admitted in
+    let admitted = c.first_order-first_order.ensures.admitted in
     let top : IsTopological g (first_order g urgency) =
     rw c.first_order-first_order.ensures.order at c.first_order-first_order.ensures.topological in
     subst (IsTaken g urgency) (sym c.first.ensures)
-    (first_same g a.well_formed urgency a.topological top c.requires.narrow c.args.first.excess c.args.first.worst
+    (first_same g admitted.well_formed urgency admitted.topological top c.requires.narrow c.args.first.excess
+    c.args.first.worst
     c.requires.first c.args.order c.requires.track
     ((rw c.if-are_same.true at c.are_same.ensures) ∙ c.first_order-first_order.ensures.order))
 
@@ -28,11 +29,12 @@ returns-then-not-is_better c =
     let g = c.args.admitted.now.graph in
     let urgency = c.args.admitted.now.order in
     -- the graph is admitted, and its first order is topological
-    let a = c.first_order-first_order.ensures.admitted in
+    let admitted = c.first_order-first_order.ensures.admitted in
     let top : IsTopological g (first_order g urgency) =
     rw c.first_order-first_order.ensures.order at c.first_order-first_order.ensures.topological in
     subst (IsTaken g urgency) (sym c.first-then-not-is_better.ensures)
-    (first_better g a.well_formed urgency a.topological top c.requires.narrow c.args.first.excess c.args.first.worst
+    (first_better g admitted.well_formed urgency admitted.topological top c.requires.narrow c.args.first.excess
+    c.args.first.worst
     c.requires.first c.args.order c.requires.track c.requires.topological
     c.in_ok-figures.figures.excess c.in_ok-figures.figures.worst c.in_ok-figures.ensures
     (λ better. both_ways c.is_better.result c.if-not-is_better.true (c.is_better.ensures.1 better)))
@@ -43,12 +45,13 @@ returns-in-Some c =
     let g = c.args.admitted.now.graph in
     let urgency = c.args.admitted.now.order in
     -- the graph is admitted, and its first order is topological
-    let a = c.first_order-first_order.ensures.admitted in
+    let admitted = c.first_order-first_order.ensures.admitted in
     let top : IsTopological g (first_order g urgency) =
     rw c.first_order-first_order.ensures.order at c.first_order-first_order.ensures.topological in
     let least : IsLeastWide g c.args.order c.in-Some.field-0 = rw c.in-Some.is at c.in_ok-too_wide.ensures.some in
     subst (IsTaken g urgency) (sym c.first-in-Some.ensures)
-    (first_wide g a.well_formed urgency a.topological top c.requires.narrow c.args.first.excess c.args.first.worst
+    (first_wide g admitted.well_formed urgency admitted.topological top c.requires.narrow c.args.first.excess
+    c.args.first.worst
     c.requires.first c.args.order c.requires.track c.in-Some.field-0 least.wide)
 
 -- the track order is better and nothing is too wide under it, so it is taken
@@ -57,11 +60,12 @@ returns c =
     let g = c.args.admitted.now.graph in
     let urgency = c.args.admitted.now.order in
     -- the graph is admitted, and its first order is topological
-    let a = c.first_order-first_order.ensures.admitted in
+    let admitted = c.first_order-first_order.ensures.admitted in
     let top : IsTopological g (first_order g urgency) =
     rw c.first_order-first_order.ensures.order at c.first_order-first_order.ensures.topological in
     let narrow : IsNarrow g c.args.order = rw c.in_default.is at c.in_ok-too_wide.ensures.none in
-    tracks_better g a.well_formed urgency a.topological top c.requires.narrow c.args.first.excess c.args.first.worst
+    tracks_better g admitted.well_formed urgency admitted.topological top c.requires.narrow c.args.first.excess
+    c.args.first.worst
     c.requires.first c.args.order c.requires.track c.requires.topological
     c.in_ok-figures.figures.excess c.in_ok-figures.figures.worst c.in_ok-figures.ensures narrow c.requires.ungiven
     (c.is_better.ensures.0 c.if-not-is_better.false)

@@ -13,10 +13,11 @@ rows_of_first-requires-clause-in_time c =
     let g = c.args.admitted.now.graph in
     let urgency = c.args.admitted.now.order in
     -- the graph is admitted, and its first order is topological
-    let a = c.first_order-order.ensures.admitted in
+    let admitted = c.first_order-order.ensures.admitted in
     let top : IsTopological g (first_order g urgency) =
     rw c.first_order-order.ensures.order at c.first_order-order.ensures.topological in
-    grown_in_time g a.well_formed urgency a.topological top c.in_ok-first.first c.in_ok-first.ensures.grown 0
+    grown_in_time g admitted.well_formed urgency admitted.topological top c.in_ok-first.first
+    c.in_ok-first.ensures.grown 0
     c.requires.in_time.0 c.requires.in_time.1 refl
 
 -- the rows of the first order are those of its compilations, as it is the compile's order
@@ -25,11 +26,12 @@ returns-clause-rows c =
     let g = c.args.admitted.now.graph in
     let urgency = c.args.admitted.now.order in
     -- the graph is admitted, and its first order is topological
-    let a = c.first_order-order.ensures.admitted in
+    let admitted = c.first_order-order.ensures.admitted in
     let top : IsTopological g (first_order g urgency) =
     rw c.first_order-order.ensures.order at c.first_order-order.ensures.topological in
-    let zero = grown_in_time g a.well_formed urgency a.topological top c.in_ok-first.first c.in_ok-first.ensures.grown 0
+    let zero = grown_in_time g admitted.well_formed urgency admitted.topological top c.in_ok-first.first
+    c.in_ok-first.ensures.grown 0
     c.requires.in_time.0 c.requires.in_time.1 refl in
-    compiled_rows g urgency c.args.admitted.now.guards a top c.in_ok-first.ensures.narrow c.in_ok-first.first
+    compiled_rows g urgency c.args.admitted.now.guards admitted top c.in_ok-first.ensures.narrow c.in_ok-first.first
     c.in_ok-rows.rows c.in_ok-rows.ensures.rows c.in_ok-rows.ensures.excess zero
     (subst (IsCompileOrder g urgency) (sym c.in_ok-first.ensures.grown.same) c.requires.taken)

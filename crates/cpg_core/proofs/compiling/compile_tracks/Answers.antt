@@ -30,12 +30,14 @@ returns c =
     let g = c.args.admitted.now.graph in
     let urgency = c.args.admitted.now.order in
     -- the graph is admitted, and its first order is topological
-    let a = c.first_order-order.ensures.admitted in
+    let admitted = c.first_order-order.ensures.admitted in
     let top : IsTopological g (first_order g urgency) =
     rw c.first_order-order.ensures.order at c.first_order-order.ensures.topological in
-    let zero = tracked_in_time g a.well_formed urgency a.topological top c.args.order c.requires.topological
+    let zero = tracked_in_time g admitted.well_formed urgency admitted.topological top c.args.order
+    c.requires.topological
     c.in_ok-grown.grown c.in_ok-grown.ensures 0 c.requires.in_time.0 c.requires.in_time.1
     refl in
-    compiled_rows g urgency c.args.admitted.now.guards a top c.requires.first c.in_ok-grown.grown c.in_ok-rows.rows
+    compiled_rows g urgency c.args.admitted.now.guards admitted top c.requires.first c.in_ok-grown.grown
+    c.in_ok-rows.rows
     c.in_ok-rows.ensures.rows c.in_ok-rows.ensures.measures.0 zero
     (subst (IsCompileOrder g urgency) (sym c.in_ok-grown.ensures.same) c.requires.taken)

@@ -17,12 +17,13 @@ returns-clause-rows c =
     let g = c.args.admitted.now.graph in
     let urgency = c.args.admitted.now.order in
     -- the graph is admitted, and its first order is topological
-    let a = c.first_order-order.ensures.admitted in
+    let admitted = c.first_order-order.ensures.admitted in
     let top : IsTopological g (first_order g urgency) =
     rw c.first_order-order.ensures.order at c.first_order-order.ensures.topological in
     let zero : c.in_ok-first.first.excess.time ≡ 0 = omega (arith, c.if-first-gt0.false) in
-    let is = grown_many g a.well_formed urgency a.topological top c.in_ok-first.first c.in_ok-first.ensures.grown
+    let is = grown_many g admitted.well_formed urgency admitted.topological top c.in_ok-first.first
+    c.in_ok-first.ensures.grown
     c.in_ok-first.ensures.narrow c.requires in
-    compiled_rows g urgency c.args.admitted.now.guards a top c.in_ok-first.ensures.narrow c.in_ok-first.first
+    compiled_rows g urgency c.args.admitted.now.guards admitted top c.in_ok-first.ensures.narrow c.in_ok-first.first
     c.in_ok-rows.rows c.in_ok-rows.ensures.rows c.in_ok-rows.ensures.excess zero
     (subst (IsCompileOrder g urgency) (sym c.in_ok-first.ensures.grown.same) is.taken)

@@ -18,13 +18,13 @@ returns c =
     let urgency = c.args.admitted.now.order in
     let order = c.args.order in
     let guards = c.args.admitted.now.guards in
-    let a = c.problem-problem.ensures.admitted in
+    let admitted = c.problem-problem.ensures.admitted in
     let frozen : List (Option ℕ) = c.args.trees.frozen in
     let forest : ForestState = c.args.trees.forest in
     let grown : IsGrown g order (process_count g) frozen forest = c.requires.grown in
     -- the trees of the ends give the ends of each run
     let has_value : GiveEnds g order frozen forest.ends =
-    grown_gives_ends g urgency guards a order c.requires.topological frozen forest grown in
+    grown_gives_ends g urgency guards admitted order c.requires.topological frozen forest grown in
     -- these are the trees whose peaks were found
     let worst : IsPeak g urgency (process_count g) (EndsAt g forest.ends) c.in_ok-worst.worst =
     said_of (λ h us ts. IsPeak h us (process_count h) (EndsAt h ts) c.in_ok-worst.worst) g c.problem-problem.result.now urgency
@@ -39,7 +39,7 @@ returns c =
       same = refl;
       wide = c.requires.wide;
       trees = grown;
-      frozen = grown_frozen g urgency guards a order c.requires.topological frozen forest grown;
+      frozen = grown_frozen g urgency guards admitted order c.requires.topological frozen forest grown;
       worst = peak_is_worst g order c.requires.topological frozen forest.ends grown.trees.all_ends grown.trees.ends has_value
           urgency c.in_ok-worst.worst worst;
       excess = peak_is_excess g order c.requires.topological frozen forest.ends grown.trees.all_ends grown.trees.ends has_value

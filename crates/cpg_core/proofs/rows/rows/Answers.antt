@@ -18,34 +18,35 @@ pub row-requires-clause-tree : goal.row-requires-clause-tree
 row-requires-clause-tree c =
     let g = c.args.problem.now in
     let times = c.args.times.items in
-    let n = c.loop-tree.item in
+    let item = c.loop-tree.item in
     let inv = c.loop-tree.invariant in
     let rest = c.next.new.self.rest.items in
     let is : c.loop-tree.tree-iterator.rest.items ≡ c.in-Some.tree ∷ rest = search rules in
-    let within : n < length times = omega (arith, inv.count, ap length is) in
-    subst (IsTree g) (next_left times rest c.in-Some.tree (no_tree g.faults) n (sym is ∙ inv.left)).0
-    (c.requires.trees n (no_tree g.faults) within)
+    let within : item < length times = omega (arith, inv.count, ap length is) in
+    subst (IsTree g) (next_left times rest c.in-Some.tree (no_tree g.faults) item (sym is ∙ inv.left)).0
+    (c.requires.trees item (no_tree g.faults) within)
 
 -- the row of this item is made, and the columns so far are counted with it
 pub loop-tree-preserved : goal.loop-tree-preserved
 loop-tree-preserved c =
     let g = c.args.problem.now in
     let times = c.args.times.items in
-    let n = c.loop-tree.item in
+    let item = c.loop-tree.item in
     let inv = c.loop-tree.invariant in
     let rest = c.next.new.self.rest.items in
-    -- the next tree is that of item n
+    -- the next tree is that of `item`
     let is : c.loop-tree.tree-iterator.rest.items ≡ c.in-Some.tree ∷ rest = search rules in
-    let next = next_left times rest c.in-Some.tree (no_tree g.faults) n (sym is ∙ inv.left) in
+    let next = next_left times rest c.in-Some.tree (no_tree g.faults) item (sym is ∙ inv.left) in
     -- one tree less is left, and the rows so far have one row more
     record {
       count = omega (arith, inv.count, ap length is);
       left = next.1;
       rows =
-          rows_more g c.args.urgency.now times n c.loop-tree.rows.items c.push.new.self.items c.in_ok-row.row inv.rows
-          (subst (λ t. IsRowOf g c.args.urgency.now t n c.in_ok-row.row) (sym next.0) c.in_ok-row.ensures)
+          rows_more g c.args.urgency.now times item c.loop-tree.rows.items c.push.new.self.items c.in_ok-row.row
+          inv.rows
+          (subst (λ t. IsRowOf g c.args.urgency.now t item c.in_ok-row.row) (sym next.0) c.in_ok-row.ensures)
           c.in_ok-push.ensures.items;
-      few = few_more g c.loop-tree.rows.items c.push.new.self.items c.in_ok-row.row n inv.rows.count
+      few = few_more g c.loop-tree.rows.items c.push.new.self.items c.in_ok-row.row item inv.rows.count
           c.in_ok-push.ensures.items c.args.wide c.loop-tree.load c.in_ok-load.load inv.few
           c.in_ok-load.ensures.load;
       load = c.in_ok-load.ensures.few;
@@ -73,17 +74,18 @@ pub returns-in_err-load-clause-fault : goal.returns-in_err-load-clause-fault
 returns-in_err-load-clause-fault c =
     let g = c.args.problem.now in
     let times = c.args.times.items in
-    let n = c.loop-tree.item in
+    let item = c.loop-tree.item in
     let inv = c.loop-tree.invariant in
     let rest = c.next.new.self.rest.items in
-    -- the next tree is that of item n
+    -- the next tree is that of `item`
     let is : c.loop-tree.tree-iterator.rest.items ≡ c.in-Some.tree ∷ rest = search rules in
-    let within : n < length times = omega (arith, inv.count, ap length is) in
-    let next = next_left times rest c.in-Some.tree (no_tree g.faults) n (sym is ∙ inv.left) in
+    let within : item < length times = omega (arith, inv.count, ap length is) in
+    let next = next_left times rest c.in-Some.tree (no_tree g.faults) item (sym is ∙ inv.left) in
     let fault = c.in_err-load.field-0.0 in
     -- its row is too wide, or all rows up to it are
     handed_on _ c.from_residual-in_err-load.result fault c.from_residual-in_err-load.ensures.1
-    (wide_shown c.args.wide fault g c.args.urgency.now times c.loop-tree.rows.items c.in_ok-row.row n c.loop-tree.load
+    (wide_shown c.args.wide fault g c.args.urgency.now times c.loop-tree.rows.items c.in_ok-row.row item
+    c.loop-tree.load
     (omega (arith, within, c.requires.count)) inv.rows
-    (subst (λ t. IsRowOf g c.args.urgency.now t n c.in_ok-row.row) (sym next.0) c.in_ok-row.ensures) inv.few
+    (subst (λ t. IsRowOf g c.args.urgency.now t item c.in_ok-row.row) (sym next.0) c.in_ok-row.ensures) inv.few
     c.in_err-load.ensures.fault)

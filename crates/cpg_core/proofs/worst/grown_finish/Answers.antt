@@ -15,11 +15,11 @@ returns-clause-accepted c =
     let g = c.args.admitted.now.graph in
     let urgency = c.args.admitted.now.order in
     -- the graph is admitted, and its first order is topological
-    let a = c.first_order-order.ensures.admitted in
+    let admitted = c.first_order-order.ensures.admitted in
     let top : IsTopological g (first_order g urgency) =
     rw c.first_order-order.ensures.order at c.first_order-order.ensures.topological in
     accepted g urgency
     (record { figures = record { excess = c.in_ok-first.first.excess.time; worst = c.in_ok-first.first.worst.time }; order = None })
     (λ _. c.requires.narrow)
-    (grown_many g a.well_formed urgency a.topological top c.in_ok-first.first c.in_ok-first.ensures
+    (grown_many g admitted.well_formed urgency admitted.topological top c.in_ok-first.first c.in_ok-first.ensures
     (λ _. c.requires.narrow) c.requires.many) (omega (arith, c.if-first-gt0.false))

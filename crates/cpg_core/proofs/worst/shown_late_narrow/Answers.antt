@@ -10,7 +10,7 @@ late_narrow-requires-clause-late c =
     let g = c.args.admitted.now.graph in
     let urgency = c.args.admitted.now.order in
     -- the graph is admitted, and its first order is topological
-    let a = c.first_order-order.ensures.admitted in
+    let admitted = c.first_order-order.ensures.admitted in
     let top : IsTopological g (first_order g urgency) =
     rw c.first_order-order.ensures.order at c.first_order-order.ensures.topological in
-    grown_late g a.well_formed urgency a.topological top c.in-Ok.first c.in-Ok.ensures c.requires.late
+    grown_late g admitted.well_formed urgency admitted.topological top c.in-Ok.first c.in-Ok.ensures c.requires.late

@@ -2,14 +2,12 @@
 -- otherwise, at its release or later, when its node is ready, which `wait` says, and all inputs, or the one that the
 -- activation names, are there. `TooWide` names the forest's item if a tree of the wait with some of the inputs has too
 -- many leaves.
-use Rattle.std.proofs.Common.{None, sym, subst, refl}
+use Rattle.std.proofs.Common.{sym, subst, refl}
 use Rattle.cpg_base.specs.declared.activation.Activation.{Activation}
 use Rattle.cpg_base.specs.declared.activation.Activation.TheVariants.{Plain, By}
-use Rattle.cpg_tree.specs.Tree.{IsConstant}
-use Rattle.cpg_tree.specs.Variables.{is_variable}
 use Rattle.cpg_expand.specs.Forest.{ready_by}
 use Rattle.cpg_expand.specs.Guarded.{IsStartBy}
-use Rattle.cpg_expand.proofs.GuardTrees.{start_active, no_start, constant_tree}
+use Rattle.cpg_expand.proofs.GuardTrees.{start_active, no_start}
 use Rattle.cpg_expand.proofs.guarded.start_by.Goals as goal
 
 -- a plain activation waits for all inputs
@@ -32,20 +30,11 @@ returns-in_ok-start-in-By-clause-start c =
     c.in_ok-start-in-By.start c.args.release c.args.inputs.now
     (By c.in-By.edge) refl c.in_ok-start-in-By.ensures.start)
 
--- the tree without times is one of the graph
-pub returns-in_ok-constant-in-Inactive-clause-tree : goal.returns-in_ok-constant-in-Inactive-clause-tree
-returns-in_ok-constant-in-Inactive-clause-tree c =
-    constant_tree c.args.problem.now None c.faults.result c.in_ok-constant-in-Inactive.constant c.faults.ensures.faults
-    c.in_ok-constant-in-Inactive.ensures.each c.in_ok-constant-in-Inactive.ensures.is
-    (c.in_ok-constant-in-Inactive.ensures.pass (is_variable c.args.problem.now))
-
 -- an inactive process has no start
-pub returns-in_ok-constant-in-Inactive-clause-start : goal.returns-in_ok-constant-in-Inactive-clause-start
-returns-in_ok-constant-in-Inactive-clause-start c =
+pub returns-in_ok-never-in-Inactive-clause-start : goal.returns-in_ok-never-in-Inactive-clause-start
+returns-in_ok-never-in-Inactive-clause-start c =
     subst (λ (a : Activation). IsStartBy c.args.problem.now c.args.forest.now
     (ready_by c.args.problem.now c.args.forest.now c.args.wait.now) c.args.release c.args.inputs.now a
-    c.in_ok-constant-in-Inactive.constant) (sym c.in-Inactive.is)
+    c.in_ok-never-in-Inactive.never) (sym c.in-Inactive.is)
     (no_start c.args.problem.now c.args.forest.now (ready_by c.args.problem.now c.args.forest.now c.args.wait.now)
-    c.args.release c.args.inputs.now c.in_ok-constant-in-Inactive.constant
-    (subst (λ k. IsConstant None k c.in_ok-constant-in-Inactive.constant) c.faults.ensures.faults
-    c.in_ok-constant-in-Inactive.ensures.is))
+    c.args.release c.args.inputs.now c.in_ok-never-in-Inactive.never c.in_ok-never-in-Inactive.ensures.none)

@@ -17,7 +17,7 @@ returns-in_default c =
           (ap (λ t. t.faults) c.in_ok-ready.ensures.is ∙ c.faults.ensures.faults) c.in_ok-ready.ensures.each;
       at = subst (λ n. IsConstant (Some (process_at span.problem.now c.args.process).release) n c.in_ok-ready.ready)
           c.faults.ensures.faults
-          (subst (λ r. IsConstant (Some r) c.faults.result c.in_ok-ready.ready) c.release.ensures
+          (subst (λ t. IsConstant t c.faults.result c.in_ok-ready.ready) (c.of.ensures ∙ ap Some c.release.ensures)
           c.in_ok-ready.ensures.is);
       is = c.in_default.ensures;
     }
@@ -36,7 +36,7 @@ returns c =
           (ap (λ t. t.faults) c.in_ok-ready.ensures.is ∙ c.faults.ensures.faults) c.in_ok-ready.ensures.each;
       at = subst (λ n. IsConstant (Some (process_at g c.args.process).release) n c.in_ok-ready.ready)
           c.faults.ensures.faults
-          (subst (λ r. IsConstant (Some r) c.faults.result c.in_ok-ready.ready) c.release.ensures
+          (subst (λ t. IsConstant t c.faults.result c.in_ok-ready.ready) (c.of.ensures ∙ ap Some c.release.ensures)
           c.in_ok-ready.ensures.is);
       -- raised to the ends before it, then to what is heard, and then to the inputs
       is = record {

@@ -23,14 +23,14 @@ overflow_add-upper g t c =
 -- a time that fits a pack and a delay of at most a slot stay below 2 ^ 60
 pub overflow_add-time : goal.overflow_add-time
 overflow_add-time g t c =
-    let is = rw c.in-Some.is at c.in-Value.ensures.shows in
+    let is = rw (← c.get.ensures, c.in-Some.is) at c.in-Value.ensures.shows in
     let first = c.requires.packable (Leaf (Some c.in-Some.time)) is 0 (record { time = 0; cube = [] }) (omega arith) in
     omega (arith, first.time, c.requires.delay)
 
 -- the path of a column that fits has at most 255 literals
 pub put_column-requires : goal.put_column-requires
 put_column-requires g t c =
-    let is = rw c.in-Some.is at c.in-Value.ensures.shows in
+    let is = rw (← c.get.ensures, c.in-Some.is) at c.in-Value.ensures.shows in
     let first = c.requires.packable (Leaf (Some c.in-Some.time)) is 0 (record { time = 0; cube = [] }) (omega arith) in
     rw c.literals.ensures.literals first.short
 
@@ -101,14 +101,14 @@ pub returns-in_ok-put_column-in-Value-clause-put : goal.returns-in_ok-put_column
 returns-in_ok-put_column-in-Value-clause-put g t c n are =
     subst (IsPut _ _ _ _)
     (one_piece (delayed c.args.delay) c.args.k c.args.path.now c.args.items.now n are c.in-Some.time
-    (rw c.in-Some.is at c.in-Value.ensures.shows))
+    (rw (← c.get.ensures, c.in-Some.is) at c.in-Value.ensures.shows))
     (rw c.literals.ensures.literals at c.in_ok-put_column-in-Value.ensures.put)
 
 -- the tree is a leaf without a time, so it has no column and nothing is put
 pub returns-in_default-clause-put : goal.returns-in_default-clause-put
 returns-in_default-clause-put g t c n are =
     subst (IsPut _ _ _ _) (no_piece (delayed c.args.delay) c.args.k c.args.path.now c.args.items.now n are
-    (rw c.in_default.is at c.in-Value.ensures.shows)) (IsPut-none _ _)
+    (rw (← c.get.ensures, c.in_default.is) at c.in-Value.ensures.shows)) (IsPut-none _ _)
 
 -- the tree is a leaf with a time, and of its one column a proper prefix was taken
 pub returns-in_err-put_column-in-Value-clause-put : goal.returns-in_err-put_column-in-Value-clause-put
@@ -117,7 +117,7 @@ returns-in_err-put_column-in-Value-clause-put g t c n are =
     let p = err_from_is_err_and c.from_residual.result c.from_residual.ensures.1 in
     puts_failed_as _ _ _ _ _ _ c.from_residual.result p.0 p.1
     (one_piece (delayed c.args.delay) c.args.k c.args.path.now c.args.items.now n are c.in-Some.time
-    (rw c.in-Some.is at c.in-Value.ensures.shows))
+    (rw (← c.get.ensures, c.in-Some.is) at c.in-Value.ensures.shows))
     (rw c.literals.ensures.literals at c.in_err-put_column-in-Value.ensures.put)
 
 -- the sink took only a proper prefix of the side below, with which both begin

@@ -18,8 +18,8 @@ loop-column-preserved g c = record {
 -- the sink took a proper prefix of the lines before this one and of this one, and so one of all
 pub returns-in_err-put_next-clause-put : goal.returns-in_err-put_next-clause-put
 returns-in_err-put_next-clause-put g c =
-    let p = err_from_is_err_and c.from_residual.result c.from_residual.ensures.1 in
-    Puts-failed _ _ _ _ _ c.from_residual.result p.0 p.1
+    let failed = err_from_is_err_and c.from_residual.result c.from_residual.ensures.1 in
+    Puts-failed _ _ _ _ _ c.from_residual.result failed.0 failed.1
     (item_fails (column_line c.args.labels.now) _ _ _ _ _ c.args.columns.now c.loop-column.column-index
     c.column-item.result c.column-item.is c.loop-column-test.true c.loop-column.invariant.put
     (rw c.literals-literals.ensures.literals at c.in_err-put_next.ensures.put))

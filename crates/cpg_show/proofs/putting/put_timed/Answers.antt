@@ -7,9 +7,9 @@ use Rattle.cpg_show.proofs.putting.put_timed.Goals as goal
 -- the sink took only a proper prefix of the time with its colon, with which the line begins
 pub returns-in_err-put_time-clause-put : goal.returns-in_err-put_time-clause-put
 returns-in_err-put_time-clause-put g c =
-    let p = err_from_is_err_and c.from_residual.result c.from_residual.ensures.1 in
+    let failed = err_from_is_err_and c.from_residual.result c.from_residual.ensures.1 in
     Puts-first _ _ _ _ (codes "  " ++ decimal c.args.time ++ codes ": ")
-    (c.args.text.now) c.from_residual.result p.0 p.1 c.in_err-put_time.ensures.put
+    (c.args.text.now) c.from_residual.result failed.0 failed.1 c.in_err-put_time.ensures.put
 
 -- the time with its colon is put, so the whole is put as far as the text is
 pub returns-clause-put : goal.returns-clause-put

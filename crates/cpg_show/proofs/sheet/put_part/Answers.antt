@@ -9,9 +9,10 @@ use Rattle.cpg_show.proofs.sheet.put_part.Goals as goal
 -- the sink took only a proper prefix of the line, with which the part begins
 pub returns-in_err-put_text-clause-put : goal.returns-in_err-put_text-clause-put
 returns-in_err-put_text-clause-put g c =
-    let p = err_from_is_err_and c.from_residual.result c.from_residual.ensures.1 in
+    let failed = err_from_is_err_and c.from_residual.result c.from_residual.ensures.1 in
     Puts-first _ _ _ _ (string_bytes c.args.part.now.head)
-    (columns_text c.args.labels.now (columns_of_source c.args.part.now.columns)) c.from_residual.result p.0 p.1
+    (columns_text c.args.labels.now (columns_of_source c.args.part.now.columns))
+    c.from_residual.result failed.0 failed.1
     (rw c.as_str.ensures.value at c.in_err-put_text.ensures.put)
 
 -- the line is put, so what becomes of the columns becomes of the part

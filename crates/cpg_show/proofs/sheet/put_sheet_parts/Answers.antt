@@ -19,8 +19,8 @@ loop-part-preserved g c = record {
 -- the sink took a proper prefix of the parts before this one and of this one, and so one of all
 pub returns-in_err-put_part-clause-put : goal.returns-in_err-put_part-clause-put
 returns-in_err-put_part-clause-put g c =
-    let p = err_from_is_err_and c.from_residual.result c.from_residual.ensures.1 in
-    Puts-failed _ _ _ _ _ c.from_residual.result p.0 p.1
+    let failed = err_from_is_err_and c.from_residual.result c.from_residual.ensures.1 in
+    Puts-failed _ _ _ _ _ c.from_residual.result failed.0 failed.1
     (item_fails (part_text c.args.labels.now) _ _ _ _ _ c.args.parts.now c.loop-part.part-index c.part-item.result
     c.part-item.is c.loop-part-test.true c.loop-part.invariant.put
     c.in_err-put_part.ensures.put)

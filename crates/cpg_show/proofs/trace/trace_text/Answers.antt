@@ -10,11 +10,11 @@ use Rattle.cpg_show.proofs.trace.trace_text.Goals as goal
 -- in a play all events are of items and processes of the graph; sorting doesn't change which they are
 pub write_events-requires-clause-within : goal.write_events-requires-clause-within
 write_events-requires-clause-within c =
-    let p = c.args.cluster.now in
-    let g = c.problem-problem.result.now in
-    let same : p.graph ≡ g = c.requires ∙ sym c.problem-problem.ensures.problem in
-    subst (All (λ (e : TraceEvent). IsKindWithin g e.kind)) (sym c.as_slice.ensures.value)
-    (All-permutation (λ (e : TraceEvent). IsKindWithin g e.kind) _ c.in_ok-events.events.items
+    let play = c.args.cluster.now in
+    let graph = c.problem-problem.result.now in
+    let same : play.graph ≡ graph = c.requires ∙ sym c.problem-problem.ensures.problem in
+    subst (All (λ (e : TraceEvent). IsKindWithin graph e.kind)) (sym c.as_slice.ensures.value)
+    (All-permutation (λ (e : TraceEvent). IsKindWithin graph e.kind) _ c.in_ok-events.events.items
     c.in_ok-events.ensures.all
-    (all_within g p.cluster.acts p.cluster.ends (acts_at p c.lengths-lengths.ensures.playing g same)
-    (ends_at p c.lengths-lengths.ensures.playing g same)))
+    (all_within graph play.cluster.acts play.cluster.ends (acts_at play c.lengths-lengths.ensures.playing graph same)
+    (ends_at play c.lengths-lengths.ensures.playing graph same)))

@@ -59,17 +59,17 @@ put_paths-requires-in-Cut g t c κs within =
     )
 
 -- the tree is a leaf without a time, so it has no column and nothing is put
-pub returns-in-Value-None-clause-put : goal.returns-in-Value-None-clause-put
-returns-in-Value-None-clause-put g t c n are =
+pub returns-in-None-clause-put : goal.returns-in-None-clause-put
+returns-in-None-clause-put g t c n are =
     subst (IsPut _ _ _ _) (no_piece (column_line c.args.labels.now) c.args.k c.args.path.now c.args.items.now n are
-    (rw c.in-Value-None.field-0-is at c.in-Value-None.ensures.shows)) (IsPut-none _ _)
+    (rw (← c.get.ensures, c.in-None.is) at c.in-Value.ensures.shows)) (IsPut-none _ _)
 
 -- the tree is a leaf with a time, so its one column is what was put
-pub returns-in-Value-Some-clause-put : goal.returns-in-Value-Some-clause-put
-returns-in-Value-Some-clause-put g t c n are =
+pub returns-in-Some-clause-put : goal.returns-in-Some-clause-put
+returns-in-Some-clause-put g t c n are =
     subst (Puts _ _ _ _ c.put_next.result)
-    (one_piece (column_line c.args.labels.now) c.args.k c.args.path.now c.args.items.now n are c.in-Value-Some.time
-    (rw c.in-Value-Some.field-0-is at c.in-Value-Some.ensures.shows))
+    (one_piece (column_line c.args.labels.now) c.args.k c.args.path.now c.args.items.now n are c.in-Some.time
+    (rw (← c.get.ensures, c.in-Some.is) at c.in-Value.ensures.shows))
     (rw c.literals.ensures.literals at c.put_next.ensures.put)
 
 -- the sink took only a proper prefix of the lines of the side below, with which those of both begin
@@ -77,16 +77,17 @@ pub returns-in_err-put_paths-in-Cut-clause-put : goal.returns-in_err-put_paths-i
 returns-in_err-put_paths-in-Cut-clause-put g t c n are =
     -- the tree is a fork, and its two sides are those of the cut
     let shows = c.in-Cut.ensures.shows in
-    let v = c.in-Cut.variable in
+    let variable = c.in-Cut.variable in
     let cut = c.in-Cut.cut in
     let k = c.args.k in
-    let f = column_line c.args.labels.now in
+    let line = column_line c.args.labels.now in
     -- the call failed
-    let p = err_from_is_err_and c.from_residual.result c.from_residual.ensures.1 in
+    let failed = err_from_is_err_and c.from_residual.result c.from_residual.ensures.1 in
     subst (Puts _ _ _ _ c.from_residual.result)
-    (both_pieces f k c.args.path.now c.args.items.now n are v cut shows.0 shows.1 shows.4)
-    (Puts-first _ _ _ _ (pieces_from f k (narrowed_by (up_to v cut) c.args.path.now) shows.0)
-    (pieces_from f k (narrowed_by (above k v cut) c.args.path.now) shows.1) c.from_residual.result p.0 p.1
+    (both_pieces line k c.args.path.now c.args.items.now n are variable cut shows.0 shows.1 shows.4)
+    (Puts-first _ _ _ _ (pieces_from line k (narrowed_by (up_to variable cut) c.args.path.now) shows.0)
+    (pieces_from line k (narrowed_by (above k variable cut) c.args.path.now) shows.1)
+    c.from_residual.result failed.0 failed.1
     (rw c.narrow-step.ensures.narrowed at (c.in_err-put_paths-in-Cut.ensures.put shows.0 shows.2)))
 
 -- the side below is put, and of the side above (on from the exchanged path) a proper prefix was taken; together that is
@@ -95,22 +96,23 @@ pub returns-in_err-put_paths-in-Cut-2-clause-put : goal.returns-in_err-put_paths
 returns-in_err-put_paths-in-Cut-2-clause-put g t c n are =
     -- the tree is a fork, and its two sides are those of the cut
     let shows = c.in-Cut.ensures.shows in
-    let v = c.in-Cut.variable in
+    let variable = c.in-Cut.variable in
     let cut = c.in-Cut.cut in
     let k = c.args.k in
-    let f = column_line c.args.labels.now in
+    let line = column_line c.args.labels.now in
     -- the path is as before, but for the range above the cut
-    let path = above_back k v cut c.top.result c.top.ensures c.narrow-step.result c.args.path.now c.narrow-step.new.self
+    let path = above_back k variable cut c.top.result c.top.ensures c.narrow-step.result c.args.path.now
+    c.narrow-step.new.self
     c.put_paths.new.path c.exchange.new.self c.narrow-step.ensures.undo
     c.in_ok-put_paths-in-Cut.ensures.path _ refl c.exchange.ensures.narrowed in
-    let r = c.from_residual-in_err-put_paths-in-Cut-2 in
+    let failing = c.from_residual-in_err-put_paths-in-Cut-2 in
     -- the call failed
-    let p = err_from_is_err_and r.result r.ensures.1 in
-    subst (Puts _ _ _ _ r.result)
-    (both_pieces f k c.args.path.now c.args.items.now n are v cut shows.0 shows.1 shows.4)
-    (Puts-failed _ _ _ _ _ r.result p.0 p.1
-    (fails_second _ _ _ _ _ (pieces_from f k (narrowed_by (up_to v cut) c.args.path.now) shows.0)
-    (pieces_from f k (narrowed_by (above k v cut) c.args.path.now) shows.1)
+    let failed = err_from_is_err_and failing.result failing.ensures.1 in
+    subst (Puts _ _ _ _ failing.result)
+    (both_pieces line k c.args.path.now c.args.items.now n are variable cut shows.0 shows.1 shows.4)
+    (Puts-failed _ _ _ _ _ failing.result failed.0 failed.1
+    (fails_second _ _ _ _ _ (pieces_from line k (narrowed_by (up_to variable cut) c.args.path.now) shows.0)
+    (pieces_from line k (narrowed_by (above k variable cut) c.args.path.now) shows.1)
     (rw c.narrow-step.ensures.narrowed at (c.in_ok-put_paths-in-Cut.ensures.put shows.0 shows.2))
     (rw path at (c.in_err-put_paths-in-Cut-2.ensures.put shows.1 shows.3))))
 
@@ -119,16 +121,18 @@ pub returns-in_ok-put_paths-in-Cut-2-clause-put : goal.returns-in_ok-put_paths-i
 returns-in_ok-put_paths-in-Cut-2-clause-put g t c n are =
     -- the tree is a fork, and its two sides are those of the cut
     let shows = c.in-Cut.ensures.shows in
-    let v = c.in-Cut.variable in
+    let variable = c.in-Cut.variable in
     let cut = c.in-Cut.cut in
     let k = c.args.k in
-    let f = column_line c.args.labels.now in
+    let line = column_line c.args.labels.now in
     -- the path is as before, but for the range above the cut
-    let path = above_back k v cut c.top.result c.top.ensures c.narrow-step.result c.args.path.now c.narrow-step.new.self
+    let path = above_back k variable cut c.top.result c.top.ensures c.narrow-step.result c.args.path.now
+    c.narrow-step.new.self
     c.put_paths.new.path c.exchange.new.self c.narrow-step.ensures.undo
     c.in_ok-put_paths-in-Cut.ensures.path _ refl c.exchange.ensures.narrowed in
-    subst (IsPut _ _ _ _) (both_pieces f k c.args.path.now c.args.items.now n are v cut shows.0 shows.1 shows.4)
-    (IsPut-then _ _ _ _ _ _ (pieces_from f k (narrowed_by (up_to v cut) c.args.path.now) shows.0)
-    (pieces_from f k (narrowed_by (above k v cut) c.args.path.now) shows.1)
+    subst (IsPut _ _ _ _) (both_pieces line k c.args.path.now c.args.items.now n are variable cut shows.0 shows.1
+    shows.4)
+    (IsPut-then _ _ _ _ _ _ (pieces_from line k (narrowed_by (up_to variable cut) c.args.path.now) shows.0)
+    (pieces_from line k (narrowed_by (above k variable cut) c.args.path.now) shows.1)
     (rw c.narrow-step.ensures.narrowed at (c.in_ok-put_paths-in-Cut.ensures.put shows.0 shows.2))
     (rw path at (c.in_ok-put_paths-in-Cut-2.ensures.put shows.1 shows.3)))

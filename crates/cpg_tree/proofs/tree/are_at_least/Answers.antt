@@ -9,9 +9,9 @@ use Rattle.cpg_tree.proofs.tree.are_at_least.Goals as goal
 
 -- one more item is no value, or a time that isn't below the least
 pub loop-item-preserved : goal.loop-item-preserved
-loop-item-preserved c = All-more (IsItemFrom c.args.least) c.args.items.now c.loop-item.item-index _
+loop-item-preserved c = All-more (IsItemFrom c.args.least) c.args.items.now c.loop-item.item-index c.item-item.result
     c.loop-item-test.true c.loop-item.invariant
-    (OnTrue_at c.if-not-is_item_from.false c.is_item_from.ensures)
+    (subst (IsItemFrom c.args.least) c.item-item.is (OnTrue_at c.if-not-is_item_from.false c.is_item_from.ensures))
 
 -- the loop has gone over all items, so each value of the tree is a time that isn't below the least
 pub returns : goal.returns

@@ -46,13 +46,13 @@ push_columns-requires-in-Some-upper_step t c =
 pub returns-in_ok-push-in-Value-clause-columns : goal.returns-in_ok-push-in-Value-clause-columns
 returns-in_ok-push-in-Value-clause-columns t c n are =
     leaf_columns c.args.k c.args.cube.now c.args.items.now n (Some c.in-Some.time) c.args.columns.now.items
-    c.push.new.self.items (rw c.in-Some.is at c.in-Value.ensures.shows) are (search rules)
+    c.push.new.self.items (rw (← c.get.ensures, c.in-Some.is) at c.in-Value.ensures.shows) are (search rules)
 
 -- the tree is a leaf without a time, so no column is added
 pub returns-in_default-clause-columns : goal.returns-in_default-clause-columns
 returns-in_default-clause-columns t c n are =
     leaf_columns c.args.k c.args.cube.now c.args.items.now n None c.args.columns.now.items c.args.columns.now.items
-    (rw c.in_default.is at c.in-Value.ensures.shows) are (sym (append-nil c.args.columns.now.items))
+    (rw (← c.get.ensures, c.in_default.is) at c.in-Value.ensures.shows) are (sym (append-nil c.args.columns.now.items))
 
 -- the cube has numbers on both sides, so the columns of both sides are added one behind the other
 pub returns-in_ok-push_columns-in-Some-step-2-clause-columns :

@@ -38,15 +38,15 @@ returns-then-not-is_open_above-clause-most t c n w are wanted =
 -- the leaf's number is no greater than the best, which stays
 pub returns-then-not-is_greater-clause-most : goal.returns-then-not-is_greater-clause-most
 returns-then-not-is_greater-clause-most t c n w are wanted =
-    most_least c.args.space.now n w c.in-Value.number c.args.best
-    (flat-same n (Leaf c.in-Value.number) (sym are ∙ c.in-Value.ensures.shows))
+    most_least c.args.space.now n w c.get-number.result c.args.best
+    (flat-same n (Leaf c.get-number.result) (sym are ∙ (rw (← c.get-number.ensures) at c.in-Value.ensures.shows)))
     (from_false c.is_greater.result c.if-not-is_greater.true c.is_greater.ensures.none)
 
 -- the leaf's number is greater than the best, and some scenario has it where the other tree is true
 pub returns-then-holds_in-clause-most : goal.returns-then-holds_in-clause-most
 returns-then-holds_in-clause-most t c n w are wanted =
-    most_leaf c.args.space.now n w c.in-Value.number c.args.best
-    (flat-same n (Leaf c.in-Value.number) (sym are ∙ c.in-Value.ensures.shows))
+    most_leaf c.args.space.now n w c.get-number.result c.args.best
+    (flat-same n (Leaf c.get-number.result) (sym are ∙ (rw (← c.get-number.ensures) at c.in-Value.ensures.shows)))
     (from_true c.is_greater.result c.if-not-is_greater.false c.is_greater.ensures.some)
     (from_true c.holds_in.result c.if-holds_in.true c.holds_in.ensures.met w wanted)
 

@@ -1,6 +1,6 @@
 -- Proof of `started_of_where`, which returns a tree with the starts of `started_of` where `active` is true, and no
 -- start elsewhere.
-use Rattle.std.proofs.Common.{◌≡◌, max, None, Some, rules}
+use Rattle.std.proofs.Common.{◌≡◌, ◌∙◌, max, None, Some, rules}
 use Rattle.cpg_tree.specs.Tree.{IsJoinWhere}
 use Rattle.cpg_tree.proofs.Forks.{of_answer}
 use Rattle.cpg_tree.specs.Later.{time_later}
@@ -18,6 +18,6 @@ returns-clause-is c =
       on = λ s b x y z few on_b is_on on_x on_y on_z. let h = made.on s b x y z few on_b is_on on_x on_y on_z in
           search rules;
       on_ranges = made.on_ranges;
-      off = made.off;
+      off = λ s b z few on_b is_off on_z. made.off s b z few on_b is_off on_z ∙ c.of.ensures;
       off_ranges = made.off_ranges;
     })

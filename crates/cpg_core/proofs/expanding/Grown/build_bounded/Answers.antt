@@ -25,8 +25,9 @@ returns-clause-rows c =
     let urgency = c.args.admitted.now.order in
     let order = c.args.self.order in
     let guards = c.args.admitted.now.guards in
-    let a = c.problem-problem.ensures.admitted in
-    let admitted : Admitted g urgency order = admitted_under g urgency order guards a c.requires.topological in
+    let is_admitted = c.problem-problem.ensures.admitted in
+    let admitted : Admitted g urgency order =
+    admitted_under g urgency order guards is_admitted c.requires.topological in
     let frozen : List (Option ℕ) = c.args.self.trees.frozen in
     let forest : ForestState = c.args.self.trees.forest in
     let rows : List Row = c.in_ok-rows.rows.items in
@@ -37,7 +38,7 @@ returns-clause-rows c =
     c.problem-problem.ensures.problem c.order-urgency.ensures.order c.into_times-times.ensures
     c.in_ok-rows.ensures.rows in
     -- these are rows that a builder finds for the order
-    let found : AreRowsFound g urgency order frozen rows = grown_rows_found g urgency guards a order
+    let found : AreRowsFound g urgency order frozen rows = grown_rows_found g urgency guards is_admitted order
     c.requires.topological frozen forest c.requires.grown.trees rows made in
     let few : IfSome c.args.self.wide (λ item. DoRowsFit g rows) =
     subst (λ (h : Graph). IfSome c.args.self.wide (λ item. DoRowsFit h rows)) c.problem-problem.ensures.problem
@@ -45,7 +46,8 @@ returns-clause-rows c =
     record {
       same = refl;
       found = found;
-      fit = rows_fit g urgency order frozen rows a.limits admitted found c.args.self.wide c.requires.grown.wide few;
+      fit = rows_fit g urgency order frozen rows is_admitted.limits admitted found c.args.self.wide
+          c.requires.grown.wide few;
       worst = c.requires.grown.worst;
       excess = c.requires.grown.excess;
     }
